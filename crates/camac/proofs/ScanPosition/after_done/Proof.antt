@@ -1,0 +1,23 @@
+-- `after_done` is `afterDone`: the code's test is the definition's, and `after_other` answers for the rest.
+use borrow.Author.Needs.{needs}
+use borrow.Author.Tests.{le-ltb, lt-ltb}
+use Rattle.camac.specs.Scan.{afterDone}
+use Rattle.camac.proofs.ScanPosition.after_done.Statement.{statement}
+use Rattle.camac.proofs.ScanPosition.after_done.Tie as tie
+
+add-t4 : tie.Need-add-t4
+add-t4 c = search needs
+
+returns : tie.Need-returns
+unfolding afterDone
+returns c = simp (lt-ltb _ _ (c .if1 .taken))
+
+after-other-requires : tie.Need-after-other-requires
+after-other-requires c κs = search needs
+
+returns-2 : tie.Need-returns-2
+unfolding afterDone
+returns-2 c = simp (le-ltb _ _ (c .before .if1 .left)) (c .after-other .ensures)
+
+pub after-done-spec : {M : Type 1} → statement M
+after-done-spec = tie.close (tie.spec add-t4 returns after-other-requires returns-2)

@@ -1,0 +1,20 @@
+-- `qmode_numbered` is `qmodeNumbered`, number by number; a number that is none of 0, 1 and 2 is 3 or more.
+use borrow.Author.Needs.{needs}
+use Rattle.camac.proofs.Laws.{three-or-more}
+use Rattle.camac.proofs.qmode_numbered.Statement.{statement}
+use Rattle.camac.proofs.qmode_numbered.Tie as tie
+
+returns : tie.Need-returns
+returns c = search needs
+
+returns-2 : tie.Need-returns-2
+returns-2 c = search needs
+
+returns-3 : tie.Need-returns-3
+returns-3 c = search needs
+
+returns-4 : tie.Need-returns-4
+returns-4 c = rw (three-or-more _ (c .match .rest .0 .0 .1) (c .match .rest .0 .1) (c .match .rest .1))
+
+pub qmode-numbered-spec : {M : Type 1} → statement M
+qmode-numbered-spec = tie.close (tie.spec returns returns-2 returns-3 returns-4)

@@ -1,0 +1,4 @@
+pub mod Checks
+pub mod Scan
+pub mod Words
+pub mod Names

@@ -1,0 +1,132 @@
+// Packing: fill marks, and the bytes of words and literals in the host's buffers.
+ghost use mathlib.Core.Path.{_≡_};
+ghost use Prim.Native.Nat.{ℕ, _+_, _-_, _*_, _/_, _%_, _≤_, _<_};
+ghost use mathlib.Core.List.{List, [], _∷_};
+ghost use mathlib.Core.Bool.{true, false};
+ghost use lib.ListN.{length, getD};
+ghost use lib.Seq.{sets};
+ghost use Rattle.packing.specs.Packing.{padAt, alignedMark, widthOf, markAfter, markAfterWords, bytesOf, stored, wordAt};
+
+// The two fill marks: the bytes used so far of the incoming and of the outgoing buffer.
+pub struct Marks {
+    pub incoming: usize,
+    pub outgoing: usize,
+}
+
+pub fn pad_at(wide: bool, mark: usize) -> usize
+    ensures { λ r. ⌜ (r ≡ padAt wide mark) × (r ≤ 2) ⌝ }
+{
+    if wide {
+        if mark % 4 == 2 {
+            return 2;
+        }
+        return 0;
+    }
+    0
+}
+
+pub fn width_of(wide: bool) -> usize
+    ensures { λ r. ⌜ (r ≡ widthOf wide) × (r ≤ 4) ⌝ }
+{
+    if wide { 4 } else { 2 }
+}
+
+// Where a word goes, behind its pad. Every mark is below 2^63: it counts bytes of a buffer.
+pub fn aligned_mark(wide: bool, mark: usize) -> usize
+    requires { ⌜ mark < 9223372036854775808 ⌝ }
+    ensures { λ r. ⌜ (r ≡ alignedMark wide mark) × (r ≤ mark + 2) ⌝ }
+{
+    mark + pad_at(wide, mark)
+}
+
+// The mark after one word. Every mark is below 2^63: it counts bytes of a buffer.
+pub fn mark_after(wide: bool, mark: usize) -> usize
+    requires { ⌜ mark < 9223372036854775808 ⌝ }
+    ensures { λ r. ⌜ (r ≡ markAfter wide mark) × (r ≤ mark + 6) ⌝ }
+{
+    aligned_mark(wide, mark) + width_of(wide)
+}
+
+// The mark after n words. Admission's marks are sums over at most 4,096 instructions of at most 2^32 words each.
+pub fn mark_after_words(wide: bool, words: u64, mark: u64) -> u64
+    requires { ⌜ (mark ≤ 4611686018427387904) × (words ≤ 4294967296) ⌝ }
+    ensures { λ r. ⌜ r ≡ markAfterWords wide words mark ⌝ }
+{
+    if words == 0 {
+        return mark;
+    }
+    if wide {
+        if mark % 4 == 2 {
+            return mark + 2 + words * 4;
+        }
+        return mark + words * 4;
+    }
+    mark + words * 2
+}
+
+fn low(v: u32) -> u8
+    ensures { λ r. ⌜ r ≡ v % 256 ⌝ }
+{
+    (v % 256) as u8
+}
+
+fn put_two(buffer: &mut [u8], at: usize, v: u32)
+    requires { ⌜ at + 2 ≤ length (now buffer) ⌝ }
+    ensures { λ r. ⌜ now (buffer .exit) ≡ sets (now (buffer .entry)) at (bytesOf false v) ⌝ }
+{
+    buffer[at] = low(v);
+    buffer[at + 1] = low(v / 256);
+}
+
+fn put_four(buffer: &mut [u8], at: usize, v: u32)
+    requires { ⌜ at + 4 ≤ length (now buffer) ⌝ }
+    ensures { λ r. ⌜ now (buffer .exit) ≡ sets (now (buffer .entry)) at (bytesOf true v) ⌝ }
+{
+    buffer[at] = low(v);
+    buffer[at + 1] = low(v / 256);
+    buffer[at + 2] = low(v / 65536);
+    buffer[at + 3] = low(v / 16777216);
+}
+
+// A word or literal at the mark, behind its pad. The room is there: no mark passes B, and admission holds B against the buffer.
+pub fn store(buffer: &mut [u8], mark: usize, wide: bool, v: u32)
+    requires { ⌜ markAfter wide mark ≤ length (now buffer) ⌝ }
+    ensures { λ r. ⌜ now (buffer .exit) ≡ stored wide v mark (now (buffer .entry)) ⌝ }
+{
+    if wide {
+        if mark % 4 == 2 {
+            put_two(buffer, mark, 0);
+            put_four(buffer, mark + 2, v);
+        } else {
+            put_four(buffer, mark, v);
+        }
+    } else {
+        put_two(buffer, mark, v);
+    }
+}
+
+// The byte at a place, zero past the end.
+pub fn byte_at(buffer: &[u8], i: usize) -> u8
+    ensures { λ r. ⌜ r ≡ getD (now (buffer .entry)) i 0 ⌝ }
+{
+    if i < buffer.len() { buffer[i] } else { 0 }
+}
+
+fn extended(x: u8) -> u32
+    ensures { λ r. ⌜ (r ≡ x) × (r < 256) ⌝ }
+{
+    x as u32
+}
+
+// The outgoing word at the mark. Every mark is below 2^63: it counts bytes of a buffer.
+pub fn fetch(buffer: &[u8], mark: usize, wide: bool) -> u32
+    requires { ⌜ mark < 9223372036854775808 ⌝ }
+    ensures { λ r. ⌜ (r ≡ wordAt wide mark (now (buffer .entry))) × (r < 16777216) ⌝ }
+{
+    let at = aligned_mark(wide, mark);
+    let low = extended(byte_at(buffer, at)) + extended(byte_at(buffer, at + 1)) * 256;
+    if wide {
+        return low + extended(byte_at(buffer, at + 2)) * 65536;
+    }
+    low
+}

@@ -1,0 +1,335 @@
+//! What a set of cases has met. A comparison that never met one of these proves little.
+
+use std::collections::BTreeMap;
+
+use super::records::StepCase;
+use super::Case;
+use crate::list::Instruction;
+use crate::list::MOST_INSTRUCTIONS;
+use crate::packing;
+use crate::record::Record;
+use crate::refusal::Refusal;
+use crate::reply::{self, Reply};
+use crate::run::{begin, current_camac, step, take};
+use crate::status;
+use crate::walk::{admission, Admitted};
+use crate::words::{Camac, Direction, QMode, Transfer};
+
+/// A transfer mode that is carried.
+#[derive(Clone, Copy, Debug, PartialEq, Eq, PartialOrd, Ord)]
+pub enum Mode {
+    Single,
+    Block,
+    Inline,
+}
+
+/// Something that a case can meet.
+#[derive(Clone, Copy, Debug, PartialEq, Eq, PartialOrd, Ord)]
+pub enum Event {
+    /// Admission or the whole run (or step, for step cases) refused with this number.
+    Refusal(u8),
+    /// The run ended with this code.
+    End(u8),
+    /// Replies ran out first.
+    Waiting,
+    /// A row with replies past the run's end.
+    RepliesPastEnd,
+    /// A run that made W operations and ended with code 0.
+    WorstCount,
+    /// A run with both buffers as long as B and O, or with one that is longer.
+    ExactBuffers,
+    LongerBuffer,
+    /// An admitted list of 4,096 instructions.
+    FullList,
+    /// An admitted block of H = 65,536.
+    LargestBlock,
+    /// An admitted list with R = 65,535.
+    LargestTryLimit,
+    /// An admitted list with fields that its walk doesn't reach.
+    UnreachedField,
+    /// A jump or a literal on the walk.
+    Jump,
+    Literal,
+    /// A word done in this transfer mode and Q-mode (0 stop, 1 ignore, 2 repeat, 3 scan).
+    Done(Mode, u8),
+    /// An answer in this transfer mode and Q-mode that left its word to be tried again.
+    Again(Mode, u8),
+    ControlWord,
+    /// Two zero bytes before a word or a literal, or skipped before a write.
+    IncomingPad,
+    LiteralPad,
+    OutgoingPad,
+    /// A done word at subaddress 15, the next station following.
+    ScanWraps,
+    /// An answer not done, the next station following.
+    ScanSkips,
+    /// Word n done at 23/15.
+    ScanFinishesLast,
+    /// Word n done at 23/15 with a parity error that ends the run, nothing left.
+    ScanFinishesWithParity,
+    /// The scan left station 23 after a word that was moved.
+    ScanLeavesMoved,
+    /// The scan left station 23 by an answer not done.
+    ScanLeavesSkipping,
+    /// The scan left station 23 under a greater code.
+    ScanLeavesUnderGreater,
+    /// Q = 0 on try R.
+    TriesSpent,
+    /// X = 0 or a parity error that AD = 1 saved.
+    AbortDisabled,
+}
+
+/// Counters of events.
+#[derive(Clone, Debug)]
+pub struct Coverage {
+    counts: BTreeMap<Event, u64>,
+}
+
+impl Coverage {
+    /// Counters for cases of admission and the whole run.
+    pub fn of_runs() -> Coverage {
+        let refusals = (1..=11).chain(20..=22).map(Event::Refusal);
+        let plain = [
+            Event::Waiting,
+            Event::RepliesPastEnd,
+            Event::WorstCount,
+            Event::ExactBuffers,
+            Event::LongerBuffer,
+            Event::FullList,
+            Event::LargestBlock,
+            Event::LargestTryLimit,
+            Event::UnreachedField,
+            Event::Jump,
+            Event::Literal,
+            Event::LiteralPad,
+        ];
+        Coverage::expecting(refusals.chain(plain).chain(of_operations()))
+    }
+
+    /// Counters for cases of step, whose lists are all valid.
+    pub fn of_steps() -> Coverage {
+        let refusals = [20, 22, 23, 24].map(Event::Refusal);
+        Coverage::expecting(refusals.into_iter().chain(of_operations()))
+    }
+
+    fn expecting(events: impl Iterator<Item = Event>) -> Coverage {
+        let counts = events.map(|event| (event, 0)).collect();
+        Coverage { counts }
+    }
+
+    fn met(&mut self, event: Event) {
+        *self.counts.entry(event).or_insert(0) += 1;
+    }
+
+    fn met_if(&mut self, condition: bool, event: Event) {
+        if condition {
+            self.met(event);
+        }
+    }
+
+    /// The events expected and never met.
+    pub fn missing(&self) -> Vec<Event> {
+        let unmet = self.counts.iter().filter(|(_, count)| **count == 0);
+        unmet.map(|(event, _)| *event).collect()
+    }
+
+    /// Every event with its count, one on a line.
+    pub fn table(&self) -> String {
+        let line = |(event, count): (&Event, &u64)| format!("{count:>10} {event:?}\n");
+        self.counts.iter().map(line).collect()
+    }
+
+    /// Counts what a case meets.
+    pub fn observe(&mut self, case: &Case) {
+        if let Err(refusal) = admission(&case.list, case.lengths.0, case.lengths.1) {
+            self.met(Event::Refusal(refusal.number));
+        }
+        let lengths = (case.incoming.len() as u64, case.outgoing.len() as u64);
+        let Ok(admitted) = admission(&case.list, lengths.0, lengths.1) else {
+            return;
+        };
+        let exact = lengths == (admitted.counts.b, admitted.counts.o);
+        self.met_if(exact, Event::ExactBuffers);
+        self.met_if(!exact, Event::LongerBuffer);
+        self.observe_list(&admitted);
+        match reply::read_row(&case.row) {
+            Some(replies) => self.observe_run(&admitted, case.incoming.clone(), &replies),
+            None => self.met(Event::Refusal(22)),
+        }
+    }
+
+    fn observe_list(&mut self, admitted: &Admitted) {
+        let list = &admitted.list;
+        let count = list.instructions.len();
+        self.met_if(count == MOST_INSTRUCTIONS, Event::FullList);
+        self.met_if(list.try_limit == 65_535, Event::LargestTryLimit);
+        self.met_if(admitted.walk.len() < count, Event::UnreachedField);
+        let mut mark = 0;
+        for &number in &admitted.walk {
+            match &list.instructions[number] {
+                Instruction::Jump(_) => self.met(Event::Jump),
+                Instruction::Literal(_) => {
+                    self.met(Event::Literal);
+                    self.met_if(packing::offset(mark, 4) != mark, Event::LiteralPad);
+                    mark = packing::mark_after(mark, 4);
+                }
+                Instruction::Camac(camac) => {
+                    let halfwords = camac.words() * camac.size.bytes() / 2;
+                    self.met_if(halfwords == 65_536, Event::LargestBlock);
+                    if reads(camac) {
+                        mark = packing::mark_after_words(mark, camac.size.bytes(), camac.words());
+                    }
+                }
+                Instruction::Halt => {}
+            }
+        }
+    }
+
+    fn observe_run(&mut self, admitted: &Admitted, mut incoming: Vec<u8>, replies: &[Reply]) {
+        let mut record = begin(admitted, &mut incoming);
+        let mut taken = 0;
+        while !record.ended && taken < replies.len() {
+            let next = take(admitted, &record, &mut incoming, &replies[taken]);
+            self.observe_operation(admitted, &record, &replies[taken], &next);
+            record = next;
+            taken += 1;
+        }
+        if !record.ended {
+            return self.met(Event::Waiting);
+        }
+        self.met_if(taken == 0, Event::End(0));
+        self.met_if(taken < replies.len(), Event::RepliesPastEnd);
+        let worst = record.operations == admitted.counts.w && taken > 0;
+        self.met_if(worst && status::code(record.status) == 0, Event::WorstCount);
+    }
+
+    /// Counts what a step case meets.
+    pub fn observe_step(&mut self, case: &StepCase) {
+        let mut incoming = case.incoming.clone();
+        let answer = step(
+            &case.list,
+            &case.record,
+            &mut incoming,
+            &case.outgoing,
+            &case.reply,
+        );
+        if let Some(Refusal { number, .. }) = answer.refusal {
+            return self.met(Event::Refusal(number));
+        }
+        let lengths = (case.incoming.len() as u64, case.outgoing.len() as u64);
+        let admitted = admission(&case.list, lengths.0, lengths.1).expect("admitted");
+        let reply = reply::read(&case.reply).expect("well-formed");
+        self.observe_operation(&admitted, &case.record, &reply, &answer.record);
+    }
+
+    /// Counts what one reply meets, with the records before and after it.
+    fn observe_operation(
+        &mut self,
+        admitted: &Admitted,
+        before: &Record,
+        reply: &Reply,
+        after: &Record,
+    ) {
+        let code = status::code(after.status);
+        self.met_if(after.ended, Event::End(code));
+        let Reply::Answer(response) = reply else {
+            return;
+        };
+        let camac = current_camac(&admitted.list, before);
+        let left = after.status & status::SCAN_LEFT != 0;
+        let on = !after.ended || code == 0;
+        let parity = response.tpe || response.lpe;
+        let again = same_word(before, after);
+        let (mode, q_mode) = (mode(&camac), q_number(&camac));
+        if on && again {
+            self.met(Event::Again(mode, q_mode));
+        } else if on {
+            self.met(Event::Done(mode, q_mode));
+            self.met_if(camac.direction() == Direction::Control, Event::ControlWord);
+            self.observe_pad(&camac, before);
+        }
+        self.met_if(code == 0xB, Event::TriesSpent);
+        self.met_if(
+            on && (parity || !response.x) && camac.abort_disable,
+            Event::AbortDisabled,
+        );
+        if camac.q_mode == QMode::Scan {
+            let done = response.q && response.x;
+            let last_word = before.words_left == 1;
+            let last_place = (before.n, before.a) == (23, 15);
+            self.met_if(on && done && before.a == 15 && !last_word, Event::ScanWraps);
+            self.met_if(on && !done, Event::ScanSkips);
+            let finishes = done && last_word && last_place;
+            self.met_if(on && finishes, Event::ScanFinishesLast);
+            self.met_if(code == 0xA && finishes, Event::ScanFinishesWithParity);
+            self.met_if(left && done && code == 9, Event::ScanLeavesMoved);
+            self.met_if(left && !done && code == 9, Event::ScanLeavesSkipping);
+            self.met_if(left && code > 9, Event::ScanLeavesUnderGreater);
+        }
+    }
+
+    fn observe_pad(&mut self, camac: &Camac, before: &Record) {
+        let length = camac.size.bytes();
+        let (incoming, outgoing) = (before.incoming_mark, before.outgoing_mark);
+        let pads = |mark: u64| packing::offset(mark, length) != mark;
+        self.met_if(reads(camac) && pads(incoming), Event::IncomingPad);
+        self.met_if(writes(camac) && pads(outgoing), Event::OutgoingPad);
+    }
+}
+
+/// The events of single operations.
+fn of_operations() -> impl Iterator<Item = Event> {
+    let ends = [0, 7, 8, 9, 0xA, 0xB, 0xC, 0xD].map(Event::End);
+    let modes = [Mode::Single, Mode::Block, Mode::Inline];
+    let done = modes.map(|mode| (0..4).map(move |q_mode| Event::Done(mode, q_mode)));
+    let again = modes.map(|mode| (2..4).map(move |q_mode| Event::Again(mode, q_mode)));
+    let plain = [
+        Event::ControlWord,
+        Event::IncomingPad,
+        Event::OutgoingPad,
+        Event::ScanWraps,
+        Event::ScanSkips,
+        Event::ScanFinishesLast,
+        Event::ScanFinishesWithParity,
+        Event::ScanLeavesMoved,
+        Event::ScanLeavesSkipping,
+        Event::ScanLeavesUnderGreater,
+        Event::TriesSpent,
+        Event::AbortDisabled,
+    ];
+    let modes = done
+        .into_iter()
+        .flatten()
+        .chain(again.into_iter().flatten());
+    ends.into_iter().chain(modes).chain(plain)
+}
+
+/// True if the record after an answer still wants the same word.
+fn same_word(before: &Record, after: &Record) -> bool {
+    !after.ended && (after.instruction, after.words_left) == (before.instruction, before.words_left)
+}
+
+fn mode(camac: &Camac) -> Mode {
+    match camac.transfer {
+        Transfer::Single => Mode::Single,
+        Transfer::Block { .. } => Mode::Block,
+        Transfer::Inline { .. } => Mode::Inline,
+    }
+}
+
+fn q_number(camac: &Camac) -> u8 {
+    match camac.q_mode {
+        QMode::Stop => 0,
+        QMode::Ignore => 1,
+        QMode::Repeat => 2,
+        QMode::Scan => 3,
+    }
+}
+
+fn reads(camac: &Camac) -> bool {
+    camac.direction() == Direction::Read
+}
+
+fn writes(camac: &Camac) -> bool {
+    camac.direction() == Direction::Write && mode(camac) != Mode::Inline
+}

@@ -1,0 +1,223 @@
+//! Properties of document 01, tried on many lists.
+
+use std::collections::HashMap;
+
+use reference::cases::lists;
+use reference::cases::records::{fitting, step_case};
+use reference::cases::rng::Rng;
+use reference::cases::rows::{row, slowest, Manner};
+use reference::fit::{fits, most_still_possible};
+use reference::scan::Position;
+use reference::walk::{admission, Admitted};
+use reference::words::{decode, Camac};
+use reference::{run_row, start, step, Record};
+
+const CASES: u64 = if cfg!(debug_assertions) {
+    3_000
+} else {
+    60_000
+};
+
+/// Rows longer than this are not made.
+const MOST_REPLIES: u64 = 3_000;
+
+fn small_list(rng: &mut Rng) -> (Vec<u8>, Admitted) {
+    let list = lists::small(rng).bytes();
+    let admitted = admission(&list, u64::MAX, u64::MAX).expect("small lists are valid");
+    (list, admitted)
+}
+
+/// Demand 3, upper half: along any run operations stay within W, the incoming mark within
+/// B, nothing is written at B or after, and the record always fits.
+#[test]
+fn runs_stay_within_w_and_b() {
+    let mut rng = Rng::new(3);
+    for _ in 0..CASES / 10 {
+        let (list, admitted) = small_list(&mut rng);
+        let row = row(&mut rng, &admitted, Manner::Risky, 100);
+        let b = admitted.counts.b as usize;
+        let mut incoming = vec![0xEE; b + 4];
+        let outgoing = rng.bytes(admitted.counts.o as usize);
+        let mut answer = start(&list, &mut incoming, &outgoing);
+        for (taken, reply) in row.chunks(8).enumerate() {
+            assert!(fits(&admitted, &answer.record));
+            assert_eq!(answer.record.operations, taken as u64);
+            let record = answer.record;
+            answer = step(&list, &record, &mut incoming, &outgoing, reply);
+            assert_eq!(answer.refusal, None);
+        }
+        let record = answer.record;
+        assert!(record.ended || fits(&admitted, &record));
+        assert!(record.operations <= admitted.counts.w);
+        assert!(record.incoming_mark <= admitted.counts.b);
+        assert!(record.outgoing_mark <= admitted.counts.o);
+        assert_eq!(incoming[b..], [0xEE; 4]);
+    }
+}
+
+/// Demand 3, attained half: the slowest replies make W operations, fill B bytes and end
+/// with code 0.
+#[test]
+fn the_slowest_replies_reach_w_and_b() {
+    let mut rng = Rng::new(4);
+    let mut reached = 0;
+    for _ in 0..CASES {
+        let (list, admitted) = small_list(&mut rng);
+        let counts = admitted.counts;
+        if counts.w > MOST_REPLIES {
+            continue;
+        }
+        let most = MOST_REPLIES as usize + 1;
+        let row = row(&mut rng, &admitted, Manner::Slowest, most);
+        let mut incoming = vec![0; counts.b as usize];
+        let outgoing = vec![0; counts.o as usize];
+        let record = run_row(&list, &mut incoming, &outgoing, &row).record;
+        assert!(record.ended);
+        assert_eq!(record.operations, counts.w);
+        assert_eq!(record.incoming_mark, counts.b);
+        assert_eq!(record.outgoing_mark, counts.o);
+        assert_eq!(record.status >> 28, 0);
+        reached += 1;
+    }
+    assert!(reached > CASES / 2);
+}
+
+/// The slowest scan from every position with every number of words, by positions alone.
+#[test]
+fn the_slowest_scan_from_every_position() {
+    for station in 1..=23 {
+        for subaddress in 0..16 {
+            let first = Position {
+                station,
+                subaddress,
+            };
+            for words in (1..=first.positions()).filter(|words| sampled(*words, station)) {
+                assert_eq!(slowest_scan(first, words), first.most_operations(words));
+            }
+        }
+    }
+}
+
+/// Debug builds look at some of the word counts only.
+fn sampled(words: u64, station: u64) -> bool {
+    !cfg!(debug_assertions) || words < 20 || words % 23 == station
+}
+
+fn slowest_scan(first: Position, words: u64) -> u64 {
+    let scan = read_scan(first, words);
+    let (mut position, mut left, mut operations) = (first, words, 0);
+    while left > 0 {
+        let record = Record {
+            words_left: left,
+            n: position.station,
+            a: position.subaddress,
+            ..Record::default()
+        };
+        let done = slowest(&scan, &record, 1) & 1 == 1;
+        operations += 1;
+        left -= u64::from(done);
+        let next = if done {
+            position.after_done()
+        } else {
+            position.next_station()
+        };
+        position = match next {
+            Some(next) => next,
+            None => break,
+        };
+    }
+    assert_eq!(left, 0);
+    operations
+}
+
+/// A scan block that reads 16-bit words.
+fn read_scan(first: Position, words: u64) -> Camac {
+    let naf = (first.station << 25 | first.subaddress << 21) as u32;
+    decode(naf | 0x013A, Some((words as u32).wrapping_neg())).expect("a scan")
+}
+
+/// Fit is closed under taken steps, for any record that fits, and each step uses up at
+/// least one of the operations still possible.
+#[test]
+fn fit_is_closed_under_taken_steps() {
+    for number in 0..CASES {
+        let case = step_case(5, number);
+        let lengths = (case.incoming.len() as u64, case.outgoing.len() as u64);
+        let mut incoming = case.incoming.clone();
+        let answer = step(
+            &case.list,
+            &case.record,
+            &mut incoming,
+            &case.outgoing,
+            &case.reply,
+        );
+        if answer.refusal.is_some() {
+            continue;
+        }
+        let admitted = admission(&case.list, lengths.0, lengths.1).expect("admitted");
+        let (before, after) = (case.record, answer.record);
+        assert!(after.ended || fits(&admitted, &after), "case {number}");
+        assert_eq!(after.operations, before.operations + 1);
+        let most = most_still_possible(&admitted, &before);
+        assert!(most >= 1);
+        assert!(most_still_possible(&admitted, &after) < most);
+        assert_eq!(answer.wanted == Default::default(), after.ended);
+    }
+}
+
+/// All the bytes 1 that can change the course of a run, and a timeout.
+const REPLIES: [[u8; 8]; 6] = [
+    [0, 0, 0, 0, 0, 0, 0, 0],
+    [0, 1, 0, 0, 0, 0, 0, 0],
+    [0, 2, 0, 0, 0, 0, 0, 0],
+    [0, 3, 0, 0, 0, 0, 0, 0],
+    [0, 0x13, 0, 0, 0, 0, 0, 0],
+    [1, 0, 0, 0, 0, 0, 0, 0],
+];
+
+/// The longest rest of a run, by trying all replies.
+fn longest(list: &[u8], admitted: &Admitted, record: Record, known: &mut Known) -> u64 {
+    if record.ended {
+        return 0;
+    }
+    let key = [
+        record.instruction,
+        record.words_left,
+        record.tries,
+        record.n,
+        record.a,
+    ];
+    if let Some(&longest) = known.get(&key) {
+        return longest;
+    }
+    let mut incoming = vec![0; admitted.counts.b as usize];
+    let outgoing = vec![0; admitted.counts.o as usize];
+    let after = REPLIES.map(|reply| {
+        let answer = step(list, &record, &mut incoming, &outgoing, &reply);
+        assert_eq!(answer.refusal, None);
+        longest(list, admitted, answer.record, known)
+    });
+    let most = 1 + after.into_iter().max().expect("six replies");
+    known.insert(key, most);
+    most
+}
+
+type Known = HashMap<[u64; 5], u64>;
+
+/// The most still possible is the true longest rest of the run, for any record that fits.
+#[test]
+fn the_most_still_possible_is_the_longest_rest() {
+    let mut rng = Rng::new(6);
+    for _ in 0..CASES / 20 {
+        let (list, admitted) = small_list(&mut rng);
+        if admitted.counts.w > 60 {
+            continue;
+        }
+        let Some(record) = fitting(&mut rng, &admitted) else {
+            continue;
+        };
+        let expected = most_still_possible(&admitted, &record);
+        let found = longest(&list, &admitted, record, &mut Known::new());
+        assert_eq!(found, expected, "{record:?}");
+    }
+}

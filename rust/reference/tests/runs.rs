@@ -1,0 +1,550 @@
+//! Runs: document 01's worked case and the manual's examples, executed.
+
+mod common;
+
+use common::*;
+use reference::camrun::render;
+use reference::record::last_moved;
+use reference::{run_row, start, step, Note, Operation, Record, Refusal};
+
+const HALT: &str = "2F 00 00 ";
+
+/// The last line that camrun prints for fields after the first field and a row.
+fn ending(fields: &str, row: &[u8]) -> String {
+    let text = render(&list(&format!("{fields} {HALT}")), row, &[]);
+    text.lines().last().expect("a line").to_string()
+}
+
+/// All lines that camrun prints.
+fn lines(list: &[u8], row: &[u8], out: &[u8]) -> Vec<String> {
+    render(list, row, out).lines().map(String::from).collect()
+}
+
+/// N and A of each `op` line.
+fn positions(lines: &[String]) -> Vec<String> {
+    let op = |line: &String| {
+        let numbers: Vec<_> = line.strip_prefix("op ")?.split(' ').collect();
+        Some(format!("{}/{}", numbers[2], numbers[3]))
+    };
+    lines.iter().filter_map(op).collect()
+}
+
+#[test]
+fn the_worked_case() {
+    let lst = hex("01 04 00 01 00 03 00 10 04 00 02 01 00 02 2F 00 00");
+    let rep = hex("00 03 00 00 34 12 00 00");
+    let printed = "admitted 1 2 0\nop 1 1 1 0 0\nend 0 00000080 1 2\n";
+    assert_eq!(render(&lst, &rep, &[]), printed);
+    let mut incoming = [0xEE; 4];
+    let answer = run_row(&lst, &mut incoming, &[], &rep);
+    assert_eq!(incoming, [0x34, 0x12, 0xEE, 0xEE]);
+    let numbers = [0, 0, 1, 1, 1, 0, 0, 0, 0, 2, 0, 1, 0x80, 0, 0, 2];
+    assert_eq!(answer.numbers(), numbers);
+    let (buffer, part) = last_moved(&incoming, &[], &answer.record.note);
+    assert_eq!((buffer, part), (0, &[0x34, 0x12][..]));
+}
+
+#[test]
+fn what_camrun_prints_otherwise() {
+    let one = list(&format!("{} {HALT}", single(0x0200_0102)));
+    assert_eq!(render(&[], &[], &[]), "refused 2 0\n");
+    assert_eq!(render(&list(M01), &[9], &[]), "refused 8 18\n");
+    assert_eq!(render(&one, &[], &[]), "admitted 1 2 0\nwaiting 0 0\n");
+    assert_eq!(render(&one, &[0; 7], &[]), "admitted 1 2 0\nrefused 22 0\n");
+    let late = [ok(1).to_vec(), kind(4).to_vec()].concat();
+    assert_eq!(render(&one, &late, &[]), "admitted 1 2 0\nrefused 22 0\n");
+    let past = [ok(1), kind(1)].concat();
+    let printed = "admitted 1 2 0\nop 1 1 1 0 0\nend 0 00000080 1 2\n";
+    assert_eq!(render(&one, &past, &[]), printed);
+    let printed = "admitted 0 0 0\nend 0 00000080 0 0\n";
+    assert_eq!(render(&list(HALT), &past, &[]), printed);
+    assert_eq!(render(&list(M15), &[], &[0; 15]), "refused 21 0\n");
+    let large = list(&format!("{} {HALT}", double(0x0C02_0322, 0xFFFF_0000)));
+    assert_eq!(render(&large, &[], &[]), "refused 20 0\n");
+}
+
+/// Each file is cut before anything looks at it.
+#[test]
+fn camrun_cuts_its_files() {
+    let one = list(&format!("{} {HALT}", single(0x0200_0102)));
+    let mut row = ok(1).repeat(65_536 / 8);
+    row.push(0xFF);
+    let printed = "admitted 1 2 0\nop 1 1 1 0 0\nend 0 00000080 1 2\n";
+    assert_eq!(render(&one, &row, &[]), printed);
+    row[65_535] = 1;
+    assert_eq!(render(&one, &row, &[]), "admitted 1 2 0\nrefused 22 0\n");
+    let writes = list(&format!("{} {}", double(0x0C10_0322, 0xFFFF_8000), HALT));
+    assert_eq!(
+        lines(&writes, &[], &[0; 70_000])[0],
+        "admitted 32768 0 65536"
+    );
+    let one_more = format!("{} {HALT}", single(0x0C10_0302)) + HALT;
+    let writes = format!("{} {one_more}", double(0x0C10_0322, 0xFFFF_8000));
+    assert_eq!(render(&list(&writes), &[], &[0; 70_000]), "refused 21 0\n");
+    // A field of an unknown tag whose body the cut leaves short.
+    let long = [list("99 FF FF"), vec![0; 65_535]].concat();
+    assert_eq!(render(&long, &[], &[]), "refused 1 7\n");
+    let refusal = reference::admit(&long, 0, 0).expect_err("refused");
+    assert_eq!(refusal, Refusal::at(3, 7));
+}
+
+/// M02 to M06.
+#[test]
+fn the_manuals_worked_list() {
+    let row = ok(0x12_3456).repeat(2_054);
+    for text in [M02, M03] {
+        let printed = lines(&list(text), &row, &[]);
+        assert_eq!(printed[0], "admitted 6150 8192 0");
+        assert_eq!(printed[2_055], "end 0 00000080 2054 8192");
+    }
+    let printed = lines(&list(M03), &row, &[]);
+    let reads = printed.iter().filter(|line| line.ends_with(" 3 6 0 2"));
+    assert_eq!(reads.count(), 2_048);
+    let slow_word = answers(&[X, X, Q | X]);
+    let half = [ok(0).repeat(2), slow_word.repeat(1_024), ok(0).to_vec()].concat();
+    let printed = lines(&list(M03), &half.repeat(2), &[]);
+    assert_eq!(printed[6_151], "end 0 00010080 6150 8192");
+    let spent = answers(&[Q | X, Q | X, X, X, X]);
+    assert_eq!(lines(&list(M03), &spent, &[])[6], "end B B2010080 5 0");
+}
+
+/// Runs a list by start and steps and returns the data of each operation wanted.
+fn wanted_data(list: &[u8], outgoing: &[u8], reply: [u8; 8]) -> Vec<u64> {
+    let mut incoming = vec![0; 65_536];
+    let mut answer = start(list, &mut incoming, outgoing);
+    let mut data = Vec::new();
+    while !answer.record.ended {
+        data.push(answer.wanted.data);
+        answer = step(list, &answer.record, &mut incoming, outgoing, &reply);
+        assert_eq!(answer.refusal, None);
+    }
+    data
+}
+
+/// M07: crate, N, A, F and data of each operation.
+#[test]
+fn the_manuals_timer_list() {
+    let printed = lines(&list(M07), &ok(0).repeat(2), &[]);
+    let expected = [
+        "admitted 2 0 0",
+        "op 1 1 1 0 16",
+        "op 2 1 2 0 16",
+        "end 0 00000080 2 0",
+    ];
+    assert_eq!(printed, expected);
+    assert_eq!(wanted_data(&list(M07), &[], ok(0)), [0x12_3456, 0xAB_CDEF]);
+}
+
+/// M12 to M15, M17.
+#[test]
+fn the_manuals_packing_figures() {
+    let data = [0x1101, 0x1202, 0x1303, 0xA1_1101, 0x1404, 0x1505];
+    let row: Vec<u8> = data.iter().flat_map(|&data| ok(data)).collect();
+    let mut incoming = [0xEE; 17];
+    run_row(&list(M12), &mut incoming, &[], &row);
+    let expected = hex("01 11 02 12 03 13 00 00 01 11 A1 00 04 14 05 15 EE");
+    assert_eq!(incoming, expected[..]);
+    let outgoing = hex("01 11 02 12 03 13 99 99 01 11 A1 77 04 14 05 15");
+    let expected: Vec<u64> = data.map(u64::from).to_vec();
+    assert_eq!(wanted_data(&list(M15), &outgoing, ok(0)), expected);
+    let mut incoming = [0xEE; 8];
+    run_row(&list(M17), &mut incoming, &[], &ok(0x1234));
+    assert_eq!(incoming, hex("34 12 00 00 5A 5A 00 00")[..]);
+}
+
+/// A pad is written with its word and not before: a waiting record's mark is before it.
+#[test]
+fn pads_wait_for_their_word() {
+    let mut incoming = [0xEE; 16];
+    let row: Vec<u8> = (1..=3).flat_map(ok).collect();
+    let answer = run_row(&list(M12), &mut incoming, &[], &row);
+    assert_eq!(answer.record.incoming_mark, 6);
+    assert_eq!(incoming[6..], [0xEE; 10]);
+    let next = step(&list(M12), &answer.record, &mut incoming, &[], &ok(4));
+    assert_eq!(next.record.incoming_mark, 12);
+    let note = Note {
+        buffer: 0,
+        offset: 8,
+        length: 4,
+    };
+    assert_eq!(next.record.note, note);
+    assert_eq!(incoming[6..12], [0, 0, 4, 0, 0, 0]);
+}
+
+/// Digest 4.9, M50 to M57.
+#[test]
+fn scans() {
+    let scan = |n: u32| double(0x2DC0_3E38, (2 * n).wrapping_neg());
+    let (ok, done) = (Q | X, Q | X);
+    let fields = format!("{} {HALT}", scan(4));
+    let printed = lines(&list(&fields), &answers(&[ok; 4]), &[]);
+    assert_eq!(printed[0], "admitted 5 16 0");
+    assert_eq!(positions(&printed), ["22/14", "22/15", "23/0", "23/1"]);
+    assert_eq!(printed[5], "end 0 00000080 4 16");
+    let printed = lines(&list(&fields), &answers(&[X, ok, ok, ok, ok]), &[]);
+    assert_eq!(
+        positions(&printed),
+        ["22/14", "23/0", "23/1", "23/2", "23/3"]
+    );
+    assert_eq!(printed[6], "end 0 00010080 5 16");
+    let four = |flags: &[u8]| ending(&scan(4), &answers(flags));
+    assert_eq!(four(&[X, X]), "end 9 90410080 2 0");
+    assert_eq!(four(&[Q, ok, ok, ok, ok]), "end 0 00020080 5 16");
+    assert_eq!(four(&[X, X | TPE]), "end A A0550080 2 0");
+    assert_eq!(four(&[0, 0]), "end 9 90430080 2 0");
+    let eighteen = |flags: &[u8]| ending(&scan(18), &answers(flags));
+    assert_eq!(eighteen(&[done; 18]), "end 0 00000080 18 72");
+    let mut second_fails = [done; 18];
+    second_fails[1] = X;
+    assert_eq!(eighteen(&second_fails), "end 9 90410080 18 68");
+    // Another cause at the last position: the word isn't moved, bit 22 stays.
+    second_fails[17] = done | LPE;
+    assert_eq!(eighteen(&second_fails), "end A A0650080 18 64");
+    // Word n at 23/15 with a parity error: nothing was left.
+    let mut last_fails = [done; 18];
+    last_fails[17] = done | TPE;
+    assert_eq!(eighteen(&last_fails), "end A A0140080 18 68");
+}
+
+/// Digest 4.10, M58, M59.
+#[test]
+fn repeats() {
+    let field = double(0x0C02_0330, 0xFFFF_FFFC);
+    let ok = Q | X;
+    let run = |flags: &[u8]| ending(&field, &answers(flags));
+    assert_eq!(run(&[X, X, ok, X, X, ok]), "end 0 00010080 6 8");
+    assert_eq!(run(&[X, X, ok, X, X, X]), "end B B2010080 6 4");
+    assert_eq!(run(&[X, X, ok, X, X]), "waiting 5 4");
+    assert_eq!(run(&[X, X, X | TPE | LPE]), "end B B2350080 3 0");
+}
+
+/// Digest 4.10, M60 to M64.
+#[test]
+fn kinds_and_flags() {
+    let saved = single(0x0C02_0303);
+    assert_eq!(ending(&saved, &kind(1)), "end B B2000080 1 0");
+    assert_eq!(ending(&saved, &kind(2)), "end C C0080080 1 0");
+    assert_eq!(ending(&saved, &kind(3)), "end D D1000080 1 0");
+    let plain = |flags: u8| ending(&single(0x0C02_0302), &answers(&[flags]));
+    assert_eq!(plain(0x07), "end 0 00840080 1 2");
+    assert_eq!(plain(0x0B), "end 0 04000080 1 2");
+    assert_eq!(plain(0x04), "end 8 80870080 1 0");
+    let ignore = single(0x0C02_030B);
+    assert_eq!(ending(&ignore, &answers(&[0x3C])), "end 0 04B70080 1 2");
+}
+
+/// Digest section 2: endings with nothing else gathered.
+#[test]
+fn endings_of_a_single_stop() {
+    let plain = |flags: u8| ending(&single(0x0C02_0302), &answers(&[flags]));
+    assert_eq!(plain(X), "end 7 70010080 1 0");
+    assert_eq!(plain(Q), "end 8 80020080 1 0");
+    assert_eq!(plain(0), "end 8 80030080 1 0");
+    assert_eq!(plain(Q | X | TPE), "end A A0140080 1 0");
+    assert_eq!(plain(Q | X | LPE), "end A A0240080 1 0");
+}
+
+/// M70: all 64 combinations of mode, AD, TPE, X and Q, judged by digest section 5.
+#[test]
+fn single_reply_combinations() {
+    for bits in 0..64_u32 {
+        let bit = |number: u32| bits >> number & 1 == 1;
+        let (q, x, tpe, ad, mode) = (bit(0), bit(1), bit(2), bit(3), bits >> 4);
+        let flags = u8::from(q) * Q + u8::from(x) * X + u8::from(tpe) * TPE;
+        let word = 0x0C02_0302 | mode << 3 | u32::from(ad);
+        let printed = ending(&single(word), &answers(&[flags]));
+        let status = (u32::from(!q) << 16) + (u32::from(!x) << 17) + u32::from(tpe) * 0x0014_0000;
+        let code = if tpe && !ad {
+            Some(0xA)
+        } else if mode != 3 && !x && !ad {
+            Some(8)
+        } else if mode == 0 && !q {
+            Some(7)
+        } else {
+            None
+        };
+        let again = (mode == 2 && !q) || (mode == 3 && !(q && x));
+        let expected = match code {
+            Some(code) => format!("end {code:X} {:08X} 1 0", status | code << 28 | 0x80),
+            None if again => String::from("waiting 1 0"),
+            None => format!("end 0 {:08X} 1 2", status | 0x80),
+        };
+        assert_eq!(
+            printed, expected,
+            "mode {mode} ad {ad} tpe {tpe} x {x} q {q}"
+        );
+    }
+}
+
+/// A record of a run in the middle of M58's block, to be damaged.
+fn waiting_record(list: &[u8]) -> Record {
+    let mut incoming = [0; 8];
+    let row = answers(&[X, Q | X, X]);
+    let record = run_row(list, &mut incoming, &[], &row).record;
+    assert!(!record.ended);
+    record
+}
+
+fn step_refusal(list: &[u8], record: &Record, reply: &[u8]) -> Option<u8> {
+    let mut incoming = [0xEE; 8];
+    let answer = step(list, record, &mut incoming, &[], reply);
+    if answer.refusal.is_some() {
+        assert_eq!(answer.record, *record);
+        assert_eq!(answer.wanted, Operation::default());
+        assert_eq!(incoming, [0xEE; 8]);
+    }
+    answer.refusal.map(|refusal| refusal.number)
+}
+
+/// "then 10 over all fields, 11, 20, 21, 24, 23, 22."
+#[test]
+fn refusals_of_a_step() {
+    let block = list(&format!("{} {HALT}", double(0x0C02_0330, 0xFFFF_FFFC)));
+    let fine = waiting_record(&block);
+    assert_eq!(step_refusal(&block, &fine, &ok(0)), None);
+    assert_eq!(step_refusal(&block, &fine, &kind(4)), Some(22));
+    assert_eq!(step_refusal(&block, &fine, &[0; 7]), Some(22));
+    assert_eq!(step_refusal(&block, &fine, &[0; 16]), Some(22));
+    assert_eq!(step_refusal(&block, &fine, &[]), Some(22));
+    let ended = Record {
+        ended: true,
+        ..fine
+    };
+    assert_eq!(step_refusal(&block, &ended, &kind(4)), Some(24));
+    let unfit = Record { tries: 3, ..fine };
+    assert_eq!(step_refusal(&block, &unfit, &kind(4)), Some(23));
+    assert_eq!(step_refusal(&[], &ended, &kind(4)), Some(2));
+    let larger = list(&format!("{} {HALT}", double(0x0C02_0330, 0xFFFF_FFFA)));
+    assert_eq!(step_refusal(&larger, &ended, &kind(4)), Some(20));
+    let writes = list(&format!("{} {HALT}", single(0x0C10_0302)));
+    assert_eq!(step_refusal(&writes, &ended, &kind(4)), Some(21));
+}
+
+/// Each clause of the fit, broken alone.
+#[test]
+fn records_that_do_not_fit() {
+    let block = list(&format!(
+        "{HALT} {} {HALT}",
+        double(0x0C02_0330, 0xFFFF_FFFC)
+    ));
+    let block = [list("20 02 00 02 00"), block[7..].to_vec()].concat();
+    let fine = waiting_record(&block);
+    let note = |buffer, offset, length| Record {
+        note: Note {
+            buffer,
+            offset,
+            length,
+        },
+        ..fine
+    };
+    assert_eq!(
+        fine.numbers(),
+        [0, 2, 1, 1, 6, 0, 4, 0, 3, 0x1_0000, 0, 0, 4]
+    );
+    for fitting in [
+        Record {
+            operations: 0,
+            ..fine
+        },
+        Record { tries: 2, ..fine },
+        Record {
+            status: 0x04B7_0000,
+            ..fine
+        },
+        Record {
+            status: 1 << 18,
+            ..fine
+        },
+        note(0, 0, 0),
+        note(0, 0, 2),
+        note(0, 1, 2),
+        note(0, 2, 2),
+    ] {
+        assert_eq!(step_refusal(&block, &fitting, &ok(0)), None, "{fitting:?}");
+    }
+    for unfit in [
+        Record {
+            instruction: 0,
+            ..fine
+        },
+        Record {
+            instruction: 1,
+            ..fine
+        },
+        Record {
+            instruction: 3,
+            ..fine
+        },
+        Record {
+            instruction: 4,
+            ..fine
+        },
+        Record {
+            instruction: u64::MAX,
+            ..fine
+        },
+        Record {
+            words_left: 0,
+            ..fine
+        },
+        Record {
+            words_left: 2,
+            ..fine
+        },
+        Record {
+            words_left: 3,
+            ..fine
+        },
+        Record {
+            words_left: u64::MAX,
+            ..fine
+        },
+        Record { tries: 3, ..fine },
+        Record { n: 7, ..fine },
+        Record { a: 1, ..fine },
+        Record {
+            incoming_mark: 6,
+            ..fine
+        },
+        Record {
+            outgoing_mark: 2,
+            ..fine
+        },
+        Record {
+            operations: 5,
+            ..fine
+        },
+        Record {
+            operations: u64::MAX,
+            ..fine
+        },
+        Record {
+            status: 1 << 7,
+            ..fine
+        },
+        Record {
+            status: 1 << 19,
+            ..fine
+        },
+        Record {
+            status: 1 << 22,
+            ..fine
+        },
+        Record {
+            status: 1 << 28,
+            ..fine
+        },
+        note(0, 0, 1),
+        note(0, 0, 3),
+        note(0, 1, 4),
+        note(0, 3, 2),
+        note(0, 1, 0),
+        note(1, 0, 0),
+        note(1, 0, 2),
+        note(2, 0, 2),
+        note(0, u64::MAX, 2),
+    ] {
+        assert_eq!(step_refusal(&block, &unfit, &ok(0)), Some(23), "{unfit:?}");
+    }
+}
+
+#[test]
+fn refused_starts_and_runs() {
+    let refused = Record {
+        ended: true,
+        ..Record::default()
+    };
+    let mut incoming = [0xEE; 3];
+    let answer = start(&list(M17), &mut incoming, &[]);
+    assert_eq!(answer.refusal, Some(Refusal::plain(20)));
+    assert_eq!(
+        (answer.record, answer.wanted),
+        (refused, Operation::default())
+    );
+    let answer = run_row(&list(M01), &mut incoming, &[], &[9]);
+    assert_eq!(answer.refusal, Some(Refusal::at(8, 18)));
+    assert_eq!((answer.record, answer.taken), (refused, 0));
+    // A start that would write a literal, refused for its row.
+    let mut incoming = [0xEE; 4];
+    let literal = list(&format!("21 04 00 01 02 03 04 {HALT}"));
+    let answer = run_row(&literal, &mut incoming, &[], &[9]);
+    assert_eq!(answer.refusal, Some(Refusal::plain(22)));
+    assert_eq!((answer.record, incoming), (refused, [0xEE; 4]));
+    let answer = run_row(&literal, &mut incoming, &[], &[]);
+    assert_eq!((answer.refusal, incoming), (None, [1, 2, 3, 4]));
+    assert_eq!(
+        answer.record.numbers(),
+        [1, 1, 0, 0, 0, 0, 4, 0, 0, 0x80, 0, 0, 0]
+    );
+}
+
+/// Inline, control and literals leave the note alone; a write's note is in the outgoing
+/// buffer, after its pad.
+#[test]
+fn notes() {
+    let fields = [
+        single(0x0C10_0302),
+        single(0x0C10_0300),
+        double(0x0C10_0360, 5),
+        single(0x0C18_0302),
+        String::from("21 04 00 01 02 03 04 "),
+        String::from(HALT),
+    ];
+    let writes = list(&fields.concat());
+    let outgoing = [1, 2, 3, 4, 5, 6, 7, 8];
+    let mut incoming = [0; 4];
+    let after = |taken: usize, incoming: &mut [u8]| {
+        run_row(&writes, incoming, &outgoing, &ok(9).repeat(taken)).record
+    };
+    assert_eq!(after(0, &mut incoming).note, Note::default());
+    let one = after(1, &mut incoming);
+    assert_eq!(
+        last_moved(&incoming, &outgoing, &one.note),
+        (1, &[1, 2][..])
+    );
+    for taken in 2..=4 {
+        let record = after(taken, &mut incoming);
+        let moved = last_moved(&incoming, &outgoing, &record.note);
+        assert_eq!(moved, (1, &[5, 6, 7, 8][..]));
+        assert_eq!(record.outgoing_mark, 8);
+        assert_eq!(record.ended, taken == 4);
+    }
+    assert_eq!(incoming, [1, 2, 3, 4]);
+}
+
+#[test]
+fn last_moved_outside() {
+    let (incoming, outgoing) = ([1, 2, 3, 4], [5, 6]);
+    let moved = |buffer, offset, length| {
+        let note = Note {
+            buffer,
+            offset,
+            length,
+        };
+        let (buffer, part) = last_moved(&incoming, &outgoing, &note);
+        (buffer, part.to_vec())
+    };
+    assert_eq!(moved(0, 1, 3), (0, vec![2, 3, 4]));
+    assert_eq!(moved(1, 0, 2), (1, vec![5, 6]));
+    for (buffer, offset, length) in [
+        (0, 1, 4),
+        (0, 5, 0),
+        (0, 0, 0),
+        (1, 1, 2),
+        (1, 1, 0),
+        (2, 0, 2),
+        (0, u64::MAX, 2),
+    ] {
+        assert_eq!(moved(buffer, offset, length), (0, vec![]));
+    }
+}
+
+#[test]
+fn code_names() {
+    use reference::names::{code_name, CODE_NAMES};
+    assert_eq!(code_name(0), b"NO ERROR");
+    assert_eq!(code_name(0xD), b"NO SYNC");
+    assert!(CODE_NAMES.iter().all(|name| (1..=15).contains(&name.len())));
+    let reserved = CODE_NAMES.iter().filter(|name| **name == b"RESERVED");
+    assert_eq!(reserved.count(), 6);
+}
