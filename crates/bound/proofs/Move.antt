@@ -1,0 +1,252 @@
+-- A reply counted at a live record: without a cause, and with the most still possible lowered by one, the run goes on and keeps the
+-- invariant; with a cause it ends, within the worst count because one operation at least was still possible.
+use Prim.Native.Nat.{ℕ, suc, _+_, _-_, _≤_}
+use mathlib.Core.Path.{_≡_, refl, sym, ap, _∙_}
+use mathlib.Core.Logic.{_⊎_, inl, inr}
+use mathlib.Core.Bool.{Bool, true, false, _&&_, false≢true}
+use mathlib.Core.List.{List, [], _∷_, _++_}
+use native.Mathlib.Omega.{arith}
+use native.Mathlib.Nat.{le-refl, le-trans, mul-le-mul-right}
+use borrow.Author.Tests.{eq-eqb, ne-eqb}
+use lib.ListN.{length, getD}
+use lib.Seq.{append-snoc}
+use Rattle.camac.specs.Checks.{if_then_else_}
+use Rattle.camac.specs.Words.{qmodeOf, wordsOf, directionOf, positionOf}
+use Rattle.camac.specs.declared.QMode.{QMode}
+use Rattle.camac.specs.declared.QMode.the-variants.{Stop, Ignore, Repeat, Scan}
+use Rattle.camac.specs.declared.Command.{Command}
+use Rattle.camac.specs.declared.Direction.{Direction}
+use Rattle.camac.specs.declared.Direction.the-variants.{Incoming, Outgoing, Neither}
+use Rattle.camac.specs.declared.ScanPosition.{ScanPosition}
+use Rattle.packing.specs.Packing.{widthOf, markAfter}
+use Rattle.packing.specs.declared.Marks.{Marks}
+use Rattle.packing.proofs.MarkFacts.{stored-length, stored-beyond}
+use Rattle.walk.specs.Walk.{noMarks, movedBy, moved, movedWords, marksAfter, marksOver}
+use Rattle.walk.specs.Worst.{worstOver}
+use Rattle.walk.specs.Admission.{Plan}
+use Rattle.walk.proofs.Visits.{Halts, Well}
+use Rattle.walk.proofs.MarksGrow.{BelowMarks, words-grow, over-snoc, below}
+use Rattle.run.specs.Causes.{leftAfter, onlyNine}
+use Rattle.run.specs.Status.{flagsOf, waitingBits}
+use Rattle.run.specs.Effect.{State, withRun, endedAt, noteAfter, storedBy, movedBytes, movedRecord, moveWord, counted, waiting, triesAfter, positionAfter, goOn, byCauses}
+use Rattle.run.specs.Fit.{mostLeft}
+use Rattle.run.specs.declared.Record.{Record}
+use Rattle.run.specs.declared.Reply.{Reply}
+use Rattle.bound.proofs.ScanCount.{scan-some}
+use Rattle.bound.proofs.StatusBits.{Only, only-or, only-clear, clear-gathered, ended-code}
+use Rattle.bound.proofs.Live.{TriesOk, PositionOk, NoteOk, read, wrote, Live, Near, Room, camacVisit}
+use Rattle.bound.proofs.RunOn.{lastMarks, Kept, Over, Reached, runs-on}
+
+-- One word moved ---------------------------------------------------------------------------------------------------------
+
+width-size : (wide : Bool) → (widthOf wide ≡ 2) ⊎ (widthOf wide ≡ 4)
+unfolding widthOf
+width-size true = inr refl
+width-size false = inl refl
+
+note-moved : (d : Direction) (wide : Bool) (r : Record) → NoteOk (r .note) (r .marks) → NoteOk (noteAfter d wide r) (movedBy d wide (r .marks))
+unfolding markAfter
+note-moved Incoming wide r h = read refl (width-size wide) (le-refl _)
+note-moved Outgoing wide r h = wrote refl (width-size wide) (le-refl _)
+note-moved Neither wide r h = h
+
+bytes-beyond : (d : Direction) (wide : Bool) (word : ℕ) (m : Marks) (buffer : List ℕ) (i : ℕ) → movedBy d wide m .incoming ≤ i
+    → getD (storedBy d wide word (m .incoming) buffer) i 0 ≡ getD buffer i 0
+bytes-beyond Incoming wide word m buffer i h = stored-beyond wide word (m .incoming) buffer i h
+bytes-beyond Outgoing wide word m buffer i h = refl
+bytes-beyond Neither wide word m buffer i h = refl
+
+bytes-length : (d : Direction) (wide : Bool) (word mark : ℕ) (buffer : List ℕ) → length (storedBy d wide word mark buffer) ≡ length buffer
+bytes-length Incoming wide word mark buffer = stored-length wide word mark buffer
+bytes-length Outgoing wide word mark buffer = refl
+bytes-length Neither wide word mark buffer = refl
+
+move-kept : (c : Command) (word : ℕ) (s : State) (incoming outgoing : List ℕ) (b : ℕ) → moved c (s .run .marks) .incoming ≤ b
+    → Kept incoming outgoing b s → Kept incoming outgoing b (moveWord c word s)
+unfolding moveWord movedBytes moved
+move-kept c word s incoming outgoing b h k = record {
+  same-length = bytes-length (directionOf (c .transfer)) (c .wide) word (s .run .marks .incoming) (s .incoming) ∙ k .same-length;
+  beyond = λ i g. bytes-beyond (directionOf (c .transfer)) (c .wide) word (s .run .marks) (s .incoming) i (le-trans h g) ∙ k .beyond i g;
+  same-outgoing = k .same-outgoing;
+}
+
+move-noted : (c : Command) (r : Record) → NoteOk (r .note) (r .marks) → NoteOk (movedRecord c r .note) (movedRecord c r .marks)
+unfolding movedRecord moved
+move-noted c r h = note-moved (directionOf (c .transfer)) (c .wide) r h
+
+-- On without a cause -----------------------------------------------------------------------------------------------------
+
+-- how an answer without a cause brings a run on: to the next instruction, or to the next word or try of this one
+pub data Progress (slow : Bool) (limit : ℕ) (q : QMode) (from : ScanPosition) (r : Record) (rest : ℕ) (isDone : Bool) : Type 0 where
+  finished : isDone ≡ true → r .left ≡ 1 → Near slow (rest + 1) (mostLeft limit q (r .position) (r .left) (r .tries) rest)
+      → Progress slow limit q from r rest isDone
+  going : 1 ≤ leftAfter isDone (r .left) → TriesOk limit q (triesAfter q isDone (r .tries))
+      → PositionOk q from (positionAfter q isDone (r .position))
+      → Room slow q (positionAfter q isDone (r .position)) (leftAfter isDone (r .left))
+      → Near slow (mostLeft limit q (positionAfter q isDone (r .position)) (leftAfter isDone (r .left)) (triesAfter q isDone (r .tries)) rest + 1)
+      (mostLeft limit q (r .position) (r .left) (r .tries) rest)
+      → Progress slow limit q from r rest isDone
+
+near-step : (slow : Bool) (a old new w : ℕ) → Near slow (a + old) w → Near slow (new + 1) old → Near slow (a + 1 + new) w
+near-step true a old new w h g = omega arith
+near-step false a old new w h g = omega arith
+
+-- the marks after one more word
+module _ (slow : Bool) (p : Plan) (r : Record) (l : Live slow p r) where
+  marks-next : moved (l .command) (r .marks) ≡ movedWords (wordsOf (l .command .transfer) - (r .left - 1)) (l .command) (marksOver (l .pre) noMarks)
+  unfolding movedWords
+  marks-next =
+      let e : wordsOf (l .command .transfer) - (r .left - 1) ≡ suc (wordsOf (l .command .transfer) - r .left) = omega (arith, l .some, l .most) in
+      ap (moved (l .command)) (l .marks) ∙ sym (ap (λ (j : ℕ). movedWords j (l .command) (marksOver (l .pre) noMarks)) e)
+
+  all-words : movedWords (wordsOf (l .command .transfer)) (l .command) (marksOver (l .pre) noMarks)
+      ≡ marksOver (l .pre ++ camacVisit (r .instruction) (l .place) (l .command) ∷ []) noMarks
+  unfolding marksAfter
+  all-words = sym (over-snoc (l .pre) (camacVisit (r .instruction) (l .place) (l .command)) noMarks)
+
+  split-after : p .visits ≡ (l .pre ++ camacVisit (r .instruction) (l .place) (l .command) ∷ []) ++ l .post
+  split-after = l .split ∙ sym (append-snoc (l .pre) (camacVisit (r .instruction) (l .place) (l .command)) (l .post))
+
+  -- they are at most B and O
+  pub next-below : BelowMarks (moved (l .command) (r .marks)) (lastMarks p)
+  next-below =
+      let whole : BelowMarks (marksOver (l .pre ++ camacVisit (r .instruction) (l .place) (l .command) ∷ []) noMarks) (lastMarks p) =
+      below (p .visits) (l .pre ++ camacVisit (r .instruction) (l .place) (l .command) ∷ []) (l .post) noMarks split-after in
+      let words : BelowMarks (movedWords (wordsOf (l .command .transfer) - (r .left - 1)) (l .command) (marksOver (l .pre) noMarks))
+      (movedWords (wordsOf (l .command .transfer)) (l .command) (marksOver (l .pre) noMarks)) =
+      words-grow (wordsOf (l .command .transfer) - (r .left - 1)) (wordsOf (l .command .transfer)) (l .command) (marksOver (l .pre) noMarks) (omega arith) in
+      record {
+        incoming = omega (arith, ap (λ (m : Marks). m .incoming) marks-next, ap (λ (m : Marks). m .incoming) all-words);
+        outgoing = omega (arith, ap (λ (m : Marks). m .outgoing) marks-next, ap (λ (m : Marks). m .outgoing) all-words);
+      }
+
+module _ (slow : Bool) (p : Plan) (incoming outgoing : List ℕ) (hl : 1 ≤ p .limit) (s : State) (t : ℕ) (l : Live slow p (s .run))
+    (kept : Kept incoming outgoing (lastMarks p .incoming) s) (count : s .run .operations ≡ t) (reply : Reply) (word : ℕ)
+    (flags : Only waitingBits (flagsOf (p .limit) (l .command) (s .run) reply)) (ht : Halts (l .post)) (wl : Well (l .post)) where
+  -- the state with the reply counted
+  abbrev now : State
+  now = withRun (counted (p .limit) (l .command) reply (s .run)) s
+
+  kept-now : Kept incoming outgoing (lastMarks p .incoming) now
+  kept-now = record { same-length = kept .same-length; beyond = kept .beyond; same-outgoing = kept .same-outgoing }
+
+  kept-moved : Kept incoming outgoing (lastMarks p .incoming) (moveWord (l .command) word now)
+  unfolding counted
+  kept-moved = move-kept (l .command) word now incoming outgoing _ (next-below slow p (s .run) l .incoming) kept-now
+
+  pub goes-on : (isDone : Bool)
+      → Progress slow (p .limit) (qmodeOf (l .command .transfer)) (positionOf (l .command .transfer)) (s .run) (worstOver (p .limit) (l .post)) isDone
+      → Reached slow p incoming outgoing (goOn (l .post) (l .command) isDone word now) (t + 1)
+  unfolding goOn counted moveWord movedRecord waiting
+  goes-on true (finished e one near) =
+      let words : wordsOf (l .command .transfer) - (s .run .left - 1) ≡ wordsOf (l .command .transfer) = omega arith in
+      rw (eq-eqb (s .run .left - 1) 0 (omega arith))
+      (runs-on slow p incoming outgoing hl (l .post) (l .pre ++ camacVisit (s .run .instruction) (l .place) (l .command) ∷ []) (moveWord (l .command) word now) (t + 1) (record {
+        split = split-after slow p (s .run) l;
+        halts = ht;
+        well = wl;
+        marks = marks-next slow p (s .run) l ∙ ap (λ (j : ℕ). movedWords j (l .command) (marksOver (l .pre) noMarks)) words ∙ all-words slow p (s .run) l;
+        bound = near-step slow _ _ _ _ (l .bound) near;
+        status = only-or (l .status) flags;
+        noted = move-noted (l .command) (now .run) (l .noted);
+        count = ap (λ (x : ℕ). x + 1) count;
+        kept = kept-moved;
+      }))
+  goes-on false (finished e one near) = absurd (false≢true e)
+  goes-on true (going some tried position room near) =
+      rw (ne-eqb (s .run .left - 1) 0 (omega arith)) (record {
+        count = ap (λ (x : ℕ). x + 1) count;
+        kept = record { same-length = kept-moved .same-length; beyond = kept-moved .beyond; same-outgoing = kept-moved .same-outgoing };
+        stage = inl (record {
+          pre = l .pre;
+          place = l .place;
+          command = l .command;
+          post = l .post;
+          split = l .split;
+          waits = refl;
+          some = some;
+          most = omega (arith, l .most);
+          tried = tried;
+          position = position;
+          marks = marks-next slow p (s .run) l;
+          bound = near-step slow _ _ _ _ (l .bound) near;
+          room = room;
+          status = only-or (l .status) flags;
+          noted = move-noted (l .command) (now .run) (l .noted);
+        });
+      })
+  goes-on false (going some tried position room near) =
+      rw (ne-eqb (s .run .left) 0 (omega arith)) (record {
+        count = ap (λ (x : ℕ). x + 1) count;
+        kept = record { same-length = kept .same-length; beyond = kept .beyond; same-outgoing = kept .same-outgoing };
+        stage = inl (record {
+          pre = l .pre;
+          place = l .place;
+          command = l .command;
+          post = l .post;
+          split = l .split;
+          waits = refl;
+          some = some;
+          most = l .most;
+          tried = tried;
+          position = position;
+          marks = l .marks;
+          bound = near-step slow _ _ _ _ (l .bound) near;
+          room = room;
+          status = only-or (l .status) flags;
+          noted = l .noted;
+        });
+      })
+
+-- Ended by a cause -------------------------------------------------------------------------------------------------------
+
+most-some : (limit : ℕ) (q : QMode) (from p : ScanPosition) (left tries rest : ℕ) → 1 ≤ left → TriesOk limit q tries → PositionOk q from p
+    → 1 ≤ mostLeft limit q p left tries rest
+unfolding mostLeft
+most-some limit Stop from p left tries rest hl ht hp = omega arith
+most-some limit Ignore from p left tries rest hl ht hp = omega arith
+most-some limit Repeat from p left tries rest hl ht hp = omega (arith, mul-le-mul-right limit hl)
+most-some limit Scan from p left tries rest hl ht hp = scan-some limit p left rest (hp .station) (hp .subaddress) hl
+
+-- a live record has an operation left
+pub live-some : (slow : Bool) (p : Plan) (r : Record) (l : Live slow p r)
+    → 1 ≤ mostLeft (p .limit) (qmodeOf (l .command .transfer)) (r .position) (r .left) (r .tries) (worstOver (p .limit) (l .post))
+live-some slow p r l =
+    most-some (p .limit) (qmodeOf (l .command .transfer)) (positionOf (l .command .transfer)) (r .position) (r .left) (r .tries) (worstOver (p .limit) (l .post))
+    (l .some) (l .tried) (l .position)
+
+module _ (p : Plan) (incoming outgoing : List ℕ) (s : State) (t : ℕ) (l : Live false p (s .run))
+    (kept : Kept incoming outgoing (lastMarks p .incoming) s) (count : s .run .operations ≡ t) (reply : Reply) (word : ℕ) where
+  pub ends-by : (code : ℕ) (codes : List ℕ) (isDone : Bool) → 1 ≤ code → Reached false p incoming outgoing
+      (byCauses (code ∷ codes) (l .post) (l .command) isDone word (withRun (counted (p .limit) (l .command) reply (s .run)) s)) (t + 1)
+  unfolding byCauses endedAt counted moveWord movedRecord
+  ends-by code codes isDone some-code = go (isDone && onlyNine (code ∷ codes))
+    where
+      some : 1 ≤ mostLeft (p .limit) (qmodeOf (l .command .transfer)) (s .run .position) (s .run .left) (s .run .tries) (worstOver (p .limit) (l .post))
+      some = live-some false p (s .run) l
+
+      now : State
+      now = withRun (counted (p .limit) (l .command) reply (s .run)) s
+
+      coded : Over false p (endedAt (s .run .instruction) code (now .run)) × Over false p (endedAt (s .run .instruction) code (movedRecord (l .command) (now .run)))
+      coded =
+          let said = ended-code _ (clear-gathered (p .limit) (l .command) (s .run) reply (only-clear _ (l .status))) code in (
+            record { over = refl; within = omega (arith, l .bound, some); no-code = λ e. absurd (false≢true e); marks = λ e. absurd (omega (arith, said, e)) },
+            record { over = refl; within = omega (arith, l .bound, some); no-code = λ e. absurd (false≢true e); marks = λ e. absurd (omega (arith, said, e)) },
+          )
+
+      go : (b : Bool) → Reached false p incoming outgoing
+          (withRun (endedAt (now .run .instruction) code ((if b then moveWord (l .command) word now else now) .run)) (if b then moveWord (l .command) word now else now)) (t + 1)
+      go true =
+          let k = move-kept (l .command) word now incoming outgoing _ (next-below false p (s .run) l .incoming)
+          (record { same-length = kept .same-length; beyond = kept .beyond; same-outgoing = kept .same-outgoing }) in
+          record {
+            count = ap (λ (x : ℕ). x + 1) count;
+            kept = record { same-length = k .same-length; beyond = k .beyond; same-outgoing = k .same-outgoing };
+            stage = inr (coded .1);
+          }
+      go false = record {
+        count = ap (λ (x : ℕ). x + 1) count;
+        kept = record { same-length = kept .same-length; beyond = kept .beyond; same-outgoing = kept .same-outgoing };
+        stage = inr (coded .0);
+      }

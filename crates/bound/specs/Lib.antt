@@ -1,0 +1,3 @@
+pub mod WorstCount
+pub mod Slowest
+pub mod Cases

@@ -1,0 +1,1 @@
+// The theorems over the definitions.

@@ -1,0 +1,6 @@
+pub mod Replies
+pub mod Causes
+pub mod Status
+pub mod Effect
+pub mod Fit
+pub mod Calls

@@ -1,0 +1,4 @@
+pub mod Walk
+pub mod Eleven
+pub mod Worst
+pub mod Admission
