@@ -1,2 +1,6 @@
+pub mod FieldLaws
+pub mod FirstLaws
+pub mod PassLaws
+pub mod ListLaws
 pub mod Sound
 pub mod DecodeFacts

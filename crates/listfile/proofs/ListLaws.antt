@@ -1,0 +1,42 @@
+-- Refusals 1 to 10 in their order, by what the checks of the first field, the pass over the fields and the check of jumps answer.
+use Prim.Native.Nat.{ℕ, zero, suc, _≤_}
+use mathlib.Core.Path.{_≡_, refl, subst}
+use mathlib.Core.List.{List}
+use lib.ListN.{length}
+use Rattle.listfile.specs.Bytes.{shortAt}
+use Rattle.listfile.specs.Fields.{firstFault, fieldsFrom, fields, firstBadJump, refused, program, afterFirst, programOf}
+use Rattle.listfile.specs.Table.{firstFields, TableRight, fieldsBy, TableBy, refusalIn, badJumpBy}
+use Rattle.listfile.specs.declared.Refusal.{Refusal}
+use Rattle.listfile.specs.declared.Pass.{Pass}
+use Rattle.listfile.specs.declared.Pass.the-variants as pass
+use Rattle.listfile.specs.declared.Jumps.{Jumps}
+use Rattle.listfile.specs.declared.Jumps.the-variants.{BadAt, Right}
+use Rattle.listfile.proofs.PassLaws.{count-fields}
+
+pub list-first : (list : List ℕ) (f : ℕ) → f ≡ firstFault list → ¬ (f ≡ 0)
+    → programOf list ≡ refused (record { number = f; place = 0 })
+unfolding programOf
+list-first list f e h = rw (← e) (go f h)
+  where
+    go : (f : ℕ) → ¬ (f ≡ 0) → afterFirst f list ≡ refused (record { number = f; place = 0 })
+    go zero h = absurd (h refl)
+    go (suc f) h = refl
+
+module _ (list : List ℕ) (first : firstFault list ≡ 0) (p : Pass) (ep : fieldsFrom (length list) list 7 0 ≡ fieldsBy list p) where
+  pub list-fields : (q r : Refusal) → p ≡ pass.Refused q → r ≡ refusalIn p → programOf list ≡ refused r
+  unfolding programOf
+  list-fields q r e er = rw (first, ep, er, e)
+
+  module _ (n : ℕ) (en : p ≡ pass.Count n) (j : Jumps) (ej : firstBadJump n (firstFields list n) ≡ badJumpBy j) where
+    pub list-jumps : (place : ℕ) → j ≡ BadAt place → programOf list ≡ refused (record { number = 10; place = place })
+    unfolding programOf
+    list-jumps place e = rw (first, ep, en, count-fields list n, ej, e)
+
+    pub list-program : (limit : ℕ) → limit ≡ shortAt list 5 → j ≡ Right
+        → programOf list ≡ program (record { limit = limit; fields = firstFields list n })
+    unfolding programOf
+    list-program limit el e = rw (first, ep, en, count-fields list n, ej, e, el)
+
+pub table-counted : (list table : List ℕ) (p : Pass) (n : ℕ) → p ≡ pass.Count n → TableBy list table p
+    → (n ≤ 4096) × TableRight list table n
+table-counted list table p n e t = subst (λ (x : Pass). TableBy list table x) e t
