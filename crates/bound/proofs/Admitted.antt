@@ -29,7 +29,7 @@ pub record SoundPlan (p : Plan) : Type 0 where
   pub well : Well (p .visits)
 
 -- the buffers have room for B and O
-pub record Room (p : Plan) (incoming outgoing : ℕ) : Type 0 where
+pub record RoomFor (p : Plan) (incoming outgoing : ℕ) : Type 0 where
   pub incoming-room : lastMarks p .incoming ≤ incoming
   pub outgoing-room : lastMarks p .outgoing ≤ outgoing
 
@@ -38,25 +38,25 @@ unfit-ready r p e = let z : _≡_ {A = ℕ} 0 1 = cc in absurd (omega arith)
 
 -- Room, and the plan before the lengths ----------------------------------------------------------------------------------
 
-lengths-passed : (i o : ℕ) (x : Prepared) (p : Plan) → afterLengths i o x ≡ ready p → (x ≡ ready p) × Room p i o
+lengths-passed : (i o : ℕ) (x : Prepared) (p : Plan) → afterLengths i o x ≡ ready p → (x ≡ ready p) × RoomFor p i o
 unfolding countsOf
 lengths-passed i o (unfit r) p e = unfit-ready r p e
 lengths-passed i o (ready q) p e = by-tests (ltb i (lastMarks q .incoming)) refl (ltb o (lastMarks q .outgoing)) refl e
   where
     by-tests : (a : Bool) → ltb i (lastMarks q .incoming) ≡ a → (b : Bool) → ltb o (lastMarks q .outgoing) ≡ b
         → (if a then unfit (record { number = 20; place = 0 }) else if b then unfit (record { number = 21; place = 0 }) else ready q) ≡ ready p
-        → (ready q ≡ ready p) × Room p i o
+        → (ready q ≡ ready p) × RoomFor p i o
     by-tests true f b g e = unfit-ready _ p e
     by-tests false f true g e = unfit-ready _ p e
     by-tests false f false g e =
         let same : q ≡ p = cc in
-        (e, subst (λ (x : Plan). Room x i o) same (record { incoming-room = ltb-false _ _ f; outgoing-room = ltb-false _ _ g }))
+        (e, subst (λ (x : Plan). RoomFor x i o) same (record { incoming-room = ltb-false _ _ f; outgoing-room = ltb-false _ _ g }))
 
 pub prepared-plan : (list : List ℕ) (i o : ℕ) (p : Plan) → prepare list i o ≡ ready p → planOf list ≡ ready p
 unfolding prepare
 prepared-plan list i o p e = lengths-passed i o (planOf list) p e .0
 
-pub prepared-room : (list : List ℕ) (i o : ℕ) (p : Plan) → prepare list i o ≡ ready p → Room p i o
+pub prepared-room : (list : List ℕ) (i o : ℕ) (p : Plan) → prepare list i o ≡ ready p → RoomFor p i o
 unfolding prepare
 prepared-room list i o p e = lengths-passed i o (planOf list) p e .1
 

@@ -72,7 +72,8 @@ goes-onward rest hr c true word s one = go (eqb (s .run .left) 1) refl
         (positionAfter (qmodeOf (c .transfer)) true (s .run .position)) (moveWord c word s .run)) (moveWord c word s)
 
     go : (b : Bool) → eqb (s .run .left) 1 ≡ b
-        → Onward (b && haltsFirst rest) (s .run .status) (if eqb (s .run .left - 1) 0 then runOn rest (moveWord c word s) else waits (s .run .left - 1))
+        → Onward (b && haltsFirst rest) (s .run .status)
+        (if eqb (s .run .left - 1) 0 then runOn rest (moveWord c word s) else waits (s .run .left - 1))
     go true q = rw (eq-eqb (s .run .left - 1) 0 (omega (arith, eqb-true (s .run .left) 1 q))) (runs-onward rest (moveWord c word s) hr)
     go false q = rw (ne-eqb (s .run .left - 1) 0 (λ e. eqb-false (s .run .left) 1 q (omega arith))) (waits-on refl refl)
 goes-onward rest hr c false word s one = rw (ne-eqb (s .run .left) 0 (λ e. omega arith)) (waits-on refl refl)
@@ -99,14 +100,16 @@ data Took (rest : List Visit) (limit : ℕ) (c : Command) (x : Reply) (s s′ : 
   causes : (code : ℕ) → codeOf limit c (s .run) x ≡ suc code → EndedWith (bitOr (s .run .status) (flagsOf limit c (s .run) x)) (suc code) s′
       → Took rest limit c x s s′
 
-takes : (rest : List Visit) → Halts rest → (limit : ℕ) (c : Command) (x : Reply) (s : State) → 1 ≤ s .run .left → Took rest limit c x s (takeReply limit rest c x s)
+takes : (rest : List Visit) → Halts rest → (limit : ℕ) (c : Command) (x : Reply) (s : State) → 1 ≤ s .run .left
+    → Took rest limit c x s (takeReply limit rest c x s)
 unfolding takeReply byCauses counted codeOf
 takes rest hr limit c x s one = by-row (causesOf limit c (s .run) x) refl
   where
     now : State
     now = withRun (counted limit c x (s .run)) s
 
-    onward : codeOf limit c (s .run) x ≡ 0 → Onward (lastWord rest c x (s .run)) (now .run .status) (goOn rest c (doneBy (qmodeOf (c .transfer)) x) (longwordOf x) now)
+    onward : codeOf limit c (s .run) x ≡ 0 → Onward (lastWord rest c x (s .run)) (now .run .status)
+        (goOn rest c (doneBy (qmodeOf (c .transfer)) x) (longwordOf x) now)
         → Took rest limit c x s (goOn rest c (doneBy (qmodeOf (c .transfer)) x) (longwordOf x) now)
     onward q (waits-on b f) = goes q b f
     onward q (meets-halt b f) = halts q b f
@@ -137,12 +140,14 @@ unfolding afterReplies
 taken-last list s [] r h = (tt, h .0)
 taken-last list s (a ∷ rs) r h = let x = taken-last list (stepOf list s a .state) rs r (h .1) in ((h .0, x .0), x .1)
 
-after-last : (list : List ℕ) (s : State) (rs : List (List ℕ)) (r : List ℕ) → afterReplies list s (rs ++ r ∷ []) ≡ stepOf list (afterReplies list s rs) r .state
+after-last : (list : List ℕ) (s : State) (rs : List (List ℕ)) (r : List ℕ)
+    → afterReplies list s (rs ++ r ∷ []) ≡ stepOf list (afterReplies list s rs) r .state
 unfolding afterReplies
 after-last list s [] r = refl
 after-last list s (a ∷ rs) r = after-last list (stepOf list s a .state) rs r
 
-module _ (list incoming outgoing : List ℕ) (p : Plan) (prepared : prepare list (length incoming) (length outgoing) ≡ ready p) (sound : SoundPlan p) where
+module _ (list incoming outgoing : List ℕ) (p : Plan) (prepared : prepare list (length incoming) (length outgoing) ≡ ready p)
+    (sound : SoundPlan p) where
   abbrev start : State
   start = startState list incoming outgoing
 
@@ -162,7 +167,8 @@ module _ (list incoming outgoing : List ℕ) (p : Plan) (prepared : prepare list
   last-reply : (rs : List (List ℕ)) (r : List ℕ) → NoneRefused list start (rs ++ r ∷ []) → Last rs r
   last-reply rs r h =
       let parts = taken-last list start rs r h in
-      let x = step-taken list incoming outgoing p prepared sound (after rs) (length rs) (row-reached list incoming outgoing p prepared sound rs (parts .0)) r (parts .1) in
+      let x = step-taken list incoming outgoing p prepared sound (after rs) (length rs)
+      (row-reached list incoming outgoing p prepared sound rs (parts .0)) r (parts .1) in
       let l : Live false p (after rs .run) = x .live in
       record {
         command = l .command;
@@ -205,7 +211,8 @@ module _ (list incoming outgoing : List ℕ) (p : Plan) (prepared : prepare list
           by-took (goes q b f) = absurd (true≢false (sym e ∙ f))
           by-took (halts q b f) =
               let b′ = and-right (doneBy (qmodeOf (l .command .transfer)) (l .reply)) _ b in
-              over _ 0 (l .clear) f (halt-after rs r (l .command) (l .reply) (l .rest) (l .at) (l .formed) q (and-left _ _ b) (eqb-true _ _ (and-left _ _ b′))
+              over _ 0 (l .clear) f (halt-after rs r (l .command) (l .reply) (l .rest) (l .at) (l .formed) q (and-left _ _ b)
+              (eqb-true _ _ (and-left _ _ b′))
               (and-right (eqb (after rs .run .left) 1) _ b′))
           by-took (causes c q f) = over _ (suc c) (l .clear) f (a-cause rs r (l .command) (l .reply) (l .rest) c (l .at) (l .formed) q)
 
@@ -214,7 +221,8 @@ module _ (list incoming outgoing : List ℕ) (p : Plan) (prepared : prepare list
       by-stage (inr v) = at-end rs (by-last rs) h (v .over)
 
   -- anyone who finds the operation and reads the reply finds the same
-  same-last : (rs : List (List ℕ)) (r : List ℕ) (l : Last rs r) (c : Command) (x : Reply) (rest : List Visit) → WaitsAt p (after rs .run) c rest → replyOf r ≡ some x
+  same-last : (rs : List (List ℕ)) (r : List ℕ) (l : Last rs r) (c : Command) (x : Reply) (rest : List Visit) → WaitsAt p (after rs .run) c rest
+      → replyOf r ≡ some x
       → (codeOf (p .limit) (l .command) (after rs .run) (l .reply) ≡ codeOf (p .limit) c (after rs .run) x)
       × (lastWord (l .rest) (l .command) (l .reply) (after rs .run) ≡ lastWord rest c x (after rs .run))
   same-last rs r l c x rest w f =
@@ -224,7 +232,8 @@ module _ (list incoming outgoing : List ℕ) (p : Plan) (prepared : prepare list
       let some-same : some (l .reply) ≡ some x = sym (l .formed) ∙ f in
       let replies : l .reply ≡ x = cc in (
         ap₂ (λ (a : Command) (y : Reply). codeOf (p .limit) a (after rs .run) y) commands replies,
-        ap₂ (λ (d : Bool) (v : List Visit). d && (eqb (after rs .run .left) 1 && haltsFirst v)) (ap₂ (λ (a : Command) (y : Reply). doneBy (qmodeOf (a .transfer)) y) commands replies) rests,
+        ap₂ (λ (d : Bool) (v : List Visit). d && (eqb (after rs .run .left) 1 && haltsFirst v))
+            (ap₂ (λ (a : Command) (y : Reply). doneBy (qmodeOf (a .transfer)) y) commands replies) rests,
       )
 
   abbrev EndedBy : List (List ℕ) → ℕ → Type 0

@@ -7,7 +7,7 @@ use mathlib.Core.Bool.{Bool, true, false, true≢false}
 use mathlib.Core.List.{List}
 use native.Mathlib.Omega.{arith}
 use lib.ListN.{length, getD}
-use Rattle.camac.specs.Words.{qmodeOf, wordsOf}
+use Rattle.camac.specs.Words.{qmodeOf, wordsOf, positionOf}
 use Rattle.camac.specs.declared.QMode.{QMode}
 use Rattle.camac.specs.declared.QMode.the-variants.{Stop, Ignore, Repeat, Scan}
 use Rattle.camac.specs.declared.Command.{Command}
@@ -24,7 +24,7 @@ use Rattle.run.specs.declared.Record.{Record}
 use Rattle.run.specs.declared.Reply.{Reply}
 use Rattle.bound.specs.WorstCount.{WaitsAt}
 use Rattle.bound.proofs.StatusBits.{only-le}
-use Rattle.bound.proofs.Live.{TriesOk, near-le, Live, live-waits, waits-once, live-fits, fits-live}
+use Rattle.bound.proofs.Live.{TriesOk, PositionOk, near-le, Live, live-waits, waits-once, live-fits, fits-live}
 use Rattle.bound.proofs.RunOn.{lastMarks, Over, Reached}
 use Rattle.bound.proofs.Move.{next-below, live-some}
 use Rattle.bound.proofs.Take.{takes}
@@ -35,10 +35,15 @@ use Rattle.bound.proofs.Sequences.{begun-reached, take-live, step-live}
 
 -- a record that fits is reached, by the run that begins with it
 pub fits-reached : (p : Plan) (s : State) → fits p (s .run) ≡ true → Reached false p (s .incoming) (s .outgoing) s (s .run .operations)
-fits-reached p s h = record { count = refl; kept = record { same-length = refl; beyond = λ i g. refl; same-outgoing = refl }; stage = inl (fits-live p (s .run) h) }
+fits-reached p s h = record {
+  count = refl;
+  kept = record { same-length = refl; beyond = λ i g. refl; same-outgoing = refl };
+  stage = inl (fits-live p (s .run) h);
+}
 
 -- every record reached by a run that waits fits
-pub reached-fits : (p : Plan) → SoundPlan p → {incoming outgoing : List ℕ} {s : State} {t : ℕ} → Reached false p incoming outgoing s t → s .run .ended ≡ false
+pub reached-fits : (p : Plan) → SoundPlan p → {incoming outgoing : List ℕ} {s : State} {t : ℕ} → Reached false p incoming outgoing s t
+    → s .run .ended ≡ false
     → fits p (s .run) ≡ true
 reached-fits p sound {s = s} r e = by-stage (r .stage)
   where
@@ -55,7 +60,8 @@ code-zero-marks p {s = s} r e z = by-stage (r .stage)
     by-stage (inl l) = absurd (true≢false (sym e ∙ l .waits))
     by-stage (inr v) = v .marks z
 
-reached-within : (p : Plan) {incoming outgoing : List ℕ} {s : State} {t : ℕ} → Reached false p incoming outgoing s t → t ≤ worstOver (p .limit) (p .visits)
+reached-within : (p : Plan) {incoming outgoing : List ℕ} {s : State} {t : ℕ} → Reached false p incoming outgoing s t
+    → t ≤ worstOver (p .limit) (p .visits)
 reached-within p {s = s} {t = t} r = by-stage (r .stage)
   where
     by-stage : Live false p (s .run) ⊎ Over false p (s .run) → t ≤ worstOver (p .limit) (p .visits)
@@ -94,15 +100,18 @@ module _ (p : Plan) (sound : SoundPlan p) where
   fit-begun incoming outgoing = reached-kept (begun-reached false p sound incoming outgoing)
 
   -- after a reply taken at a record that fits
-  pub fit-kept : (s : State) → fits p (s .run) ≡ true → (reply : Reply) → FitKept p (s .incoming) (s .outgoing) (s .run .operations + 1) (takeAt p reply s)
+  pub fit-kept : (s : State) → fits p (s .run) ≡ true → (reply : Reply)
+      → FitKept p (s .incoming) (s .outgoing) (s .run .operations + 1) (takeAt p reply s)
   fit-kept s h reply =
       let l = fits-live p (s .run) h in
       let r = fits-reached p s h in
       rw (take-live false p s sound l reply)
-      (reached-kept (takes p (s .incoming) (s .outgoing) (sound .limit-least) (sound .halts) (sound .well) s (s .run .operations) l (r .kept) refl reply))
+      (reached-kept (takes p (s .incoming) (s .outgoing) (sound .limit-least) (sound .halts) (sound .well) s (s .run .operations) l
+      (r .kept) refl reply))
 
   -- a step at a record that fits goes by its reply alone
-  pub step-fits : (list : List ℕ) (s : State) → prepare list (length (s .incoming)) (length (s .outgoing)) ≡ ready p → fits p (s .run) ≡ true → (reply : List ℕ)
+  pub step-fits : (list : List ℕ) (s : State) → prepare list (length (s .incoming)) (length (s .outgoing)) ≡ ready p → fits p (s .run) ≡ true
+      → (reply : List ℕ)
       → stepOf list s reply ≡ stepReply p (replyOf reply) s
   step-fits list s prepared h reply =
       step-live list (s .incoming) (s .outgoing) p prepared sound false s (fits-reached p s h .kept) (fits-live p (s .run) h) reply
@@ -114,7 +123,9 @@ pub record FitNumbers (p : Plan) (r : Record) (c : Command) : Type 0 where
   pub waits : r .ended ≡ false
   pub left-least : 1 ≤ r .left
   pub left-most : r .left ≤ wordsOf (c .transfer)
+  pub tries : TriesOk (p .limit) (qmodeOf (c .transfer)) (r .tries)
   pub tries-most : r .tries < p .limit
+  pub position : PositionOk (qmodeOf (c .transfer)) (positionOf (c .transfer)) (r .position)
   pub operations-most : r .operations < worstOver (p .limit) (p .visits)
   pub status-most : r .status ≤ waitingBits
   -- the marks after the next word
@@ -131,13 +142,16 @@ live-numbers slow p r sound l = record {
   waits = l .waits;
   left-least = l .some;
   left-most = l .most;
+  tries = l .tried;
+  position = l .position;
   tries-most = tries-below (p .limit) (qmodeOf (l .command .transfer)) (r .tries) (sound .limit-least) (l .tried);
   operations-most = omega (arith, near-le slow _ _ (l .bound), live-some slow p r l);
   status-most = only-le waitingBits (r .status) (l .status);
   next-marks = next-below slow p r l;
 }
 
-pub fits-numbers : (p : Plan) → SoundPlan p → (r : Record) → fits p r ≡ true → {c : Command} {rest : List Visit} → WaitsAt p r c rest → FitNumbers p r c
+pub fits-numbers : (p : Plan) → SoundPlan p → (r : Record) → fits p r ≡ true → {c : Command} {rest : List Visit} → WaitsAt p r c rest
+    → FitNumbers p r c
 fits-numbers p sound r h w =
     let l = fits-live p r h in
     subst (λ (x : Command). FitNumbers p r x) (waits-once (live-waits false p r (sound .distinct) l) w .0) (live-numbers false p r sound l)

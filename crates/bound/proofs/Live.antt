@@ -79,7 +79,8 @@ pub record Live (slow : Bool) (p : Plan) (r : Record) : Type 0 where
   pub tried : TriesOk (p .limit) (qmodeOf (command .transfer)) (r .tries)
   pub position : PositionOk (qmodeOf (command .transfer)) (positionOf (command .transfer)) (r .position)
   pub marks : r .marks ≡ movedWords (wordsOf (command .transfer) - r .left) command (marksOver pre noMarks)
-  pub bound : Near slow (r .operations + mostLeft (p .limit) (qmodeOf (command .transfer)) (r .position) (r .left) (r .tries) (worstOver (p .limit) post))
+  pub bound : Near slow (r .operations + mostLeft (p .limit) (qmodeOf (command .transfer)) (r .position) (r .left) (r .tries)
+      (worstOver (p .limit) post))
       (worstOver (p .limit) (p .visits))
   pub room : Room slow (qmodeOf (command .transfer)) (r .position) (r .left)
   pub status : Only waitingBits (r .status)
@@ -97,7 +98,8 @@ pub live-well : (slow : Bool) (p : Plan) (r : Record) (l : Live slow p r) → We
 live-well slow p r l h = well-after (l .pre) (camacVisit (r .instruction) (l .place) (l .command)) (l .post) (subst Well (l .split) h) .1
 
 -- a record waits at one operation
-pub waits-once : {p : Plan} {r : Record} {c c′ : Command} {rest rest′ : List Visit} → WaitsAt p r c rest → WaitsAt p r c′ rest′ → (c ≡ c′) × (rest ≡ rest′)
+pub waits-once : {p : Plan} {r : Record} {c c′ : Command} {rest rest′ : List Visit} → WaitsAt p r c rest → WaitsAt p r c′ rest′
+    → (c ≡ c′) × (rest ≡ rest′)
 waits-once {c = c} {c′ = c′} {rest = rest} {rest′ = rest′} a b =
     let same : a .visit ∷ rest ≡ b .visit ∷ rest′ = sym (a .found) ∙ b .found in
     let visits : a .visit ≡ b .visit = cc in
@@ -135,7 +137,8 @@ unfolding noteFits
 note-fits n m (unmoved b o s) = or-left _ (both (eq-eqb _ _ b) (both (eq-eqb _ _ o) (both (eq-eqb _ _ s) refl)))
 note-fits n m (read b s h) = or-right (zeros n) (both (size-fits _ s) (or-left _ (both (eq-eqb _ _ b) (le-leb _ _ h))))
 note-fits n m (wrote b s h) =
-    or-right (zeros n) (both (size-fits _ s) (or-right (eqb (n .buffer) 0 && leb (n .offset + n .size) (m .incoming)) (both (eq-eqb _ _ b) (le-leb _ _ h))))
+    or-right (zeros n) (both (size-fits _ s)
+    (or-right (eqb (n .buffer) 0 && leb (n .offset + n .size) (m .incoming)) (both (eq-eqb _ _ b) (le-leb _ _ h))))
 
 found-at : (ws pre : List Visit) (v : Visit) (post : List Visit) → Distinct ws → ws ≡ pre ++ v ∷ post
     → (upTo (v .number) ws ≡ pre) × (onFrom (v .number) ws ≡ v ∷ post)
@@ -154,7 +157,8 @@ module _ (slow : Bool) (p : Plan) (r : Record) (d : Distinct (p .visits)) (l : L
   pub live-fits : fits p r ≡ true
   unfolding fits fitsFrom fitsAt marksFit
   live-fits = rw (live-before, live-on)
-      (both (ap not (l .waits)) (both (le-leb _ _ (l .some)) (both (le-leb _ _ (l .most)) (both (tries-fit (p .limit) (qmodeOf (l .command .transfer)) (r .tries) (l .tried))
+      (both (ap not (l .waits)) (both (le-leb _ _ (l .some))
+      (both (le-leb _ _ (l .most)) (both (tries-fit (p .limit) (qmodeOf (l .command .transfer)) (r .tries) (l .tried))
       (both (position-fits (qmodeOf (l .command .transfer)) (positionOf (l .command .transfer)) (r .position) (l .position))
       (both (both (eq-eqb _ _ (ap (λ (m : Marks). m .incoming) (l .marks))) (eq-eqb _ _ (ap (λ (m : Marks). m .outgoing) (l .marks))))
       (both (le-leb _ _ (near-le slow _ _ (l .bound))) (both (eq-eqb _ _ (l .status .same)) (both (note-fits _ _ (l .noted)) refl)))))))))
@@ -179,7 +183,11 @@ position-ok Ignore from p h = same-ok from p h
 position-ok Repeat from p h = same-ok from p h
 position-ok Scan from p h =
     let g = and-right (leb (p .station) 23) _ h in
-    record { station = leb-true _ _ (and-left _ _ h); subaddress = leb-true _ _ (and-left _ _ g); onward = leb-true _ _ (and-right (leb (p .subaddress) 15) _ g) }
+    record {
+      station = leb-true _ _ (and-left _ _ h);
+      subaddress = leb-true _ _ (and-left _ _ g);
+      onward = leb-true _ _ (and-right (leb (p .subaddress) 15) _ g);
+    }
 
 size-ok : (n : ℕ) → eqb n 2 || eqb n 4 ≡ true → (n ≡ 2) ⊎ (n ≡ 4)
 size-ok n h = go (or-cases (eqb n 2) (eqb n 4) h)
@@ -223,7 +231,8 @@ unfolding onFrom
 on-from-number k [] v rest e = let z : _≡_ {A = ℕ} 0 1 = cc in absurd (omega arith)
 on-from-number k (u ∷ vs) v rest e = go (eqb (u .number) k) refl e (on-from-number k vs v rest)
   where
-    go : (t : Bool) → eqb (u .number) k ≡ t → (if t then u ∷ vs else onFrom k vs) ≡ v ∷ rest → (onFrom k vs ≡ v ∷ rest → v .number ≡ k) → v .number ≡ k
+    go : (t : Bool) → eqb (u .number) k ≡ t → (if t then u ∷ vs else onFrom k vs) ≡ v ∷ rest → (onFrom k vs ≡ v ∷ rest → v .number ≡ k)
+        → v .number ≡ k
     go true q e ih = let same : u ≡ v = cc in ap (λ (x : Visit). x .number) (sym same) ∙ eqb-true _ _ q
     go false q e ih = ih e
 
@@ -261,7 +270,8 @@ fits-live p r h = from-visits (onFrom (r .instruction) (p .visits)) refl h
             let h₄ = and-right (triesFit (p .limit) (qmodeOf (c .transfer)) (r .tries)) _ h₃ in
             let h₅ = and-right (positionFits (qmodeOf (c .transfer)) (positionOf (c .transfer)) (r .position)) _ h₄ in
             let h₆ = and-right (marksFit c m r) _ h₅ in
-            let h₇ = and-right (leb (r .operations + mostLeft (p .limit) (qmodeOf (c .transfer)) (r .position) (r .left) (r .tries) (worstOver (p .limit) rest)) worst) _ h₆ in
+            let h₇ = and-right (leb (r .operations + mostLeft (p .limit) (qmodeOf (c .transfer)) (r .position) (r .left) (r .tries)
+            (worstOver (p .limit) rest)) worst) _ h₆ in
             let h₈ = and-right (eqb (bitAnd (r .status) waitingBits) (r .status)) _ h₇ in
             let marks = and-left _ _ h₅ in
             let in-mark : r .marks .incoming ≡ movedWords (wordsOf (c .transfer) - r .left) c m .incoming = eqb-true _ _ (and-left _ _ marks) in
@@ -272,7 +282,8 @@ fits-live p r h = from-visits (onFrom (r .instruction) (p .visits)) refl h
               place = v .place;
               command = c;
               post = rest;
-              split = split-at (r .instruction) (p .visits) ∙ ap (λ (l : List Visit). upTo (r .instruction) (p .visits) ++ l) (e ∙ ap (λ (u : Visit). u ∷ rest) same);
+              split = split-at (r .instruction) (p .visits)
+                  ∙ ap (λ (l : List Visit). upTo (r .instruction) (p .visits) ++ l) (e ∙ ap (λ (u : Visit). u ∷ rest) same);
               waits = not-true _ (and-left _ _ h);
               some = leb-true _ _ (and-left _ _ h₁);
               most = leb-true _ _ (and-left _ _ h₂);

@@ -33,7 +33,7 @@ use Rattle.run.specs.Fit.{mostLeft}
 use Rattle.run.specs.declared.Record.{Record}
 use Rattle.run.specs.declared.Reply.{Reply}
 use Rattle.bound.proofs.ScanCount.{scan-some}
-use Rattle.bound.proofs.StatusBits.{Only, only-or, only-clear, clear-gathered, ended-code}
+use Rattle.bound.proofs.StatusBits.{Only, only-or, Clear, only-clear, clear-gathered, ended-code}
 use Rattle.bound.proofs.Live.{TriesOk, PositionOk, NoteOk, read, wrote, Live, Near, Room, camacVisit}
 use Rattle.bound.proofs.RunOn.{lastMarks, Kept, Over, Reached, runs-on}
 
@@ -107,14 +107,20 @@ module _ (slow : Bool) (p : Plan) (r : Record) (l : Live slow p r) where
   split-after : p .visits ≡ (l .pre ++ camacVisit (r .instruction) (l .place) (l .command) ∷ []) ++ l .post
   split-after = l .split ∙ sym (append-snoc (l .pre) (camacVisit (r .instruction) (l .place) (l .command)) (l .post))
 
+  -- after the last word they are those of the walk behind the instruction
+  pub last-marks : r .left ≡ 1 → moved (l .command) (r .marks) ≡ marksOver (l .pre ++ camacVisit (r .instruction) (l .place) (l .command) ∷ []) noMarks
+  last-marks one =
+      let words : wordsOf (l .command .transfer) - (r .left - 1) ≡ wordsOf (l .command .transfer) = omega arith in
+      marks-next ∙ ap (λ (j : ℕ). movedWords j (l .command) (marksOver (l .pre) noMarks)) words ∙ all-words
+
   -- they are at most B and O
   pub next-below : BelowMarks (moved (l .command) (r .marks)) (lastMarks p)
-  next-below =
-      let whole : BelowMarks (marksOver (l .pre ++ camacVisit (r .instruction) (l .place) (l .command) ∷ []) noMarks) (lastMarks p) =
+  next-below = let whole : BelowMarks (marksOver (l .pre ++ camacVisit (r .instruction) (l .place) (l .command) ∷ []) noMarks) (lastMarks p) =
       below (p .visits) (l .pre ++ camacVisit (r .instruction) (l .place) (l .command) ∷ []) (l .post) noMarks split-after in
       let words : BelowMarks (movedWords (wordsOf (l .command .transfer) - (r .left - 1)) (l .command) (marksOver (l .pre) noMarks))
       (movedWords (wordsOf (l .command .transfer)) (l .command) (marksOver (l .pre) noMarks)) =
-      words-grow (wordsOf (l .command .transfer) - (r .left - 1)) (wordsOf (l .command .transfer)) (l .command) (marksOver (l .pre) noMarks) (omega arith) in
+      words-grow (wordsOf (l .command .transfer) - (r .left - 1)) (wordsOf (l .command .transfer)) (l .command) (marksOver (l .pre) noMarks)
+      (omega arith) in
       record {
         incoming = omega (arith, ap (λ (m : Marks). m .incoming) marks-next, ap (λ (m : Marks). m .incoming) all-words);
         outgoing = omega (arith, ap (λ (m : Marks). m .outgoing) marks-next, ap (λ (m : Marks). m .outgoing) all-words);
@@ -139,13 +145,13 @@ module _ (slow : Bool) (p : Plan) (incoming outgoing : List ℕ) (hl : 1 ≤ p .
       → Reached slow p incoming outgoing (goOn (l .post) (l .command) isDone word now) (t + 1)
   unfolding goOn counted moveWord movedRecord waiting
   goes-on true (finished e one near) =
-      let words : wordsOf (l .command .transfer) - (s .run .left - 1) ≡ wordsOf (l .command .transfer) = omega arith in
       rw (eq-eqb (s .run .left - 1) 0 (omega arith))
-      (runs-on slow p incoming outgoing hl (l .post) (l .pre ++ camacVisit (s .run .instruction) (l .place) (l .command) ∷ []) (moveWord (l .command) word now) (t + 1) (record {
+      (runs-on slow p incoming outgoing hl (l .post) (l .pre ++ camacVisit (s .run .instruction) (l .place) (l .command) ∷ [])
+      (moveWord (l .command) word now) (t + 1) (record {
         split = split-after slow p (s .run) l;
         halts = ht;
         well = wl;
-        marks = marks-next slow p (s .run) l ∙ ap (λ (j : ℕ). movedWords j (l .command) (marksOver (l .pre) noMarks)) words ∙ all-words slow p (s .run) l;
+        marks = last-marks slow p (s .run) l one;
         bound = near-step slow _ _ _ _ (l .bound) near;
         status = only-or (l .status) flags;
         noted = move-noted (l .command) (now .run) (l .noted);
@@ -212,7 +218,8 @@ most-some limit Scan from p left tries rest hl ht hp = scan-some limit p left re
 pub live-some : (slow : Bool) (p : Plan) (r : Record) (l : Live slow p r)
     → 1 ≤ mostLeft (p .limit) (qmodeOf (l .command .transfer)) (r .position) (r .left) (r .tries) (worstOver (p .limit) (l .post))
 live-some slow p r l =
-    most-some (p .limit) (qmodeOf (l .command .transfer)) (positionOf (l .command .transfer)) (r .position) (r .left) (r .tries) (worstOver (p .limit) (l .post))
+    most-some (p .limit) (qmodeOf (l .command .transfer)) (positionOf (l .command .transfer)) (r .position) (r .left) (r .tries)
+    (worstOver (p .limit) (l .post))
     (l .some) (l .tried) (l .position)
 
 module _ (p : Plan) (incoming outgoing : List ℕ) (s : State) (t : ℕ) (l : Live false p (s .run))
@@ -222,31 +229,37 @@ module _ (p : Plan) (incoming outgoing : List ℕ) (s : State) (t : ℕ) (l : Li
   unfolding byCauses endedAt counted moveWord movedRecord
   ends-by code codes isDone some-code = go (isDone && onlyNine (code ∷ codes))
     where
-      some : 1 ≤ mostLeft (p .limit) (qmodeOf (l .command .transfer)) (s .run .position) (s .run .left) (s .run .tries) (worstOver (p .limit) (l .post))
+      some : 1 ≤ mostLeft (p .limit) (qmodeOf (l .command .transfer)) (s .run .position) (s .run .left) (s .run .tries)
+          (worstOver (p .limit) (l .post))
       some = live-some false p (s .run) l
 
       now : State
       now = withRun (counted (p .limit) (l .command) reply (s .run)) s
 
-      coded : Over false p (endedAt (s .run .instruction) code (now .run)) × Over false p (endedAt (s .run .instruction) code (movedRecord (l .command) (now .run)))
-      coded =
-          let said = ended-code _ (clear-gathered (p .limit) (l .command) (s .run) reply (only-clear _ (l .status))) code in (
-            record { over = refl; within = omega (arith, l .bound, some); no-code = λ e. absurd (false≢true e); marks = λ e. absurd (omega (arith, said, e)) },
-            record { over = refl; within = omega (arith, l .bound, some); no-code = λ e. absurd (false≢true e); marks = λ e. absurd (omega (arith, said, e)) },
-          )
+      clear : Clear (now .run .status)
+      clear = clear-gathered (p .limit) (l .command) (s .run) reply (only-clear _ (l .status))
+
+      ends : (r : Record) → r .operations ≡ s .run .operations + 1 → Clear (r .status) → Over false p (endedAt (s .run .instruction) code r)
+      ends r n c = record {
+        over = refl;
+        within = omega (arith, l .bound, some, n);
+        no-code = λ e. absurd (false≢true e);
+        marks = λ e. absurd (omega (arith, ended-code (r .status) c code, e));
+      }
 
       go : (b : Bool) → Reached false p incoming outgoing
-          (withRun (endedAt (now .run .instruction) code ((if b then moveWord (l .command) word now else now) .run)) (if b then moveWord (l .command) word now else now)) (t + 1)
+          (withRun (endedAt (now .run .instruction) code ((if b then moveWord (l .command) word now else now) .run))
+          (if b then moveWord (l .command) word now else now)) (t + 1)
       go true =
           let k = move-kept (l .command) word now incoming outgoing _ (next-below false p (s .run) l .incoming)
           (record { same-length = kept .same-length; beyond = kept .beyond; same-outgoing = kept .same-outgoing }) in
           record {
             count = ap (λ (x : ℕ). x + 1) count;
             kept = record { same-length = k .same-length; beyond = k .beyond; same-outgoing = k .same-outgoing };
-            stage = inr (coded .1);
+            stage = inr (ends (movedRecord (l .command) (now .run)) refl clear);
           }
       go false = record {
         count = ap (λ (x : ℕ). x + 1) count;
         kept = record { same-length = kept .same-length; beyond = kept .beyond; same-outgoing = kept .same-outgoing };
-        stage = inr (coded .0);
+        stage = inr (ends (now .run) refl clear);
       }

@@ -52,7 +52,8 @@ module _ (limit : ℕ) (from : ScanPosition) (r : Record) (rest : ℕ) (some : 1
           going (omega arith) refl hp tt (near-eq slow _ _ (omega arith))
 
   -- repeat: an answer that does the word; in the slowest run it comes on try R
-  pub repeat-done : (slow : Bool) → 1 ≤ limit → TriesOk limit Repeat (r .tries) → PositionOk Repeat from (r .position) → Near slow (r .tries + 1) limit
+  pub repeat-done : (slow : Bool) → 1 ≤ limit → TriesOk limit Repeat (r .tries) → PositionOk Repeat from (r .position)
+      → Near slow (r .tries + 1) limit
       → Progress slow limit Repeat from r rest true
   unfolding mostLeft triesAfter positionAfter
   repeat-done slow hl ht hp hn = go (eqb (r .left) 1) refl
@@ -61,7 +62,8 @@ module _ (limit : ℕ) (from : ScanPosition) (r : Record) (rest : ℕ) (some : 1
       near-one true h e = omega (arith, ap (λ (x : ℕ). x * limit) e)
       near-one false h e = omega (arith, ap (λ (x : ℕ). x * limit) e)
 
-      near-more : (slow : Bool) → Near slow (r .tries + 1) limit → Near slow ((r .left - 1) * limit - 0 + rest + 1) (r .left * limit - r .tries + rest)
+      near-more : (slow : Bool) → Near slow (r .tries + 1) limit
+          → Near slow ((r .left - 1) * limit - 0 + rest + 1) (r .left * limit - r .tries + rest)
       near-more true h = omega (arith, mul-pred (r .left) limit some)
       near-more false h = omega (arith, mul-pred (r .left) limit some)
 
@@ -86,17 +88,20 @@ module _ (limit : ℕ) (from : ScanPosition) (r : Record) (rest : ℕ) (some : 1
       go true e = finished refl (eqb-true _ _ e) (rw ht (scan-last limit from (r .position) (r .left) rest hp (eqb-true _ _ e)))
       go false e =
           let two : r .left ≡ 1 → ⊥ = eqb-false (r .left) 1 e in
-          let on : ranOff (afterDone (r .position)) ≡ false = and-not-left (ranOff (afterDone (r .position))) (ne-eqb (r .left - 1) 0 (omega arith)) stays in
+          let on : ranOff (afterDone (r .position)) ≡ false =
+          and-not-left (ranOff (afterDone (r .position))) (ne-eqb (r .left - 1) 0 (omega arith)) stays in
           going (omega arith) refl (done-range from (r .position) hp (done-case (r .position)) on) tt
           (rw ht (done-falls limit (r .position) (r .left) rest (hp .station) (hp .subaddress) (omega arith) (done-case (r .position)) on))
   scan-any false ht hp stays =
-      let on : ranOff (afterOther (r .position)) ≡ false = and-not-left (ranOff (afterOther (r .position))) (ne-eqb (r .left) 0 (omega arith)) stays in
+      let on : ranOff (afterOther (r .position)) ≡ false =
+      and-not-left (ranOff (afterOther (r .position))) (ne-eqb (r .left) 0 (omega arith)) stays in
       going some refl (other-range from (r .position) hp (other-case (r .position)) on) tt
       (rw ht (other-falls limit (r .position) (r .left) rest (hp .station) (hp .subaddress) some (other-case (r .position)) on))
 
 -- any answer without a cause
 pub answer-progress : (limit : ℕ) (q : QMode) (from : ScanPosition) (r : Record) (rest : ℕ) (a : Answer) → 1 ≤ limit → 1 ≤ r .left
-    → TriesOk limit q (r .tries) → PositionOk q from (r .position) → spent limit q a (r .tries) ≡ false → scanLeaves q a (r .position) (r .left) ≡ false
+    → TriesOk limit q (r .tries) → PositionOk q from (r .position) → spent limit q a (r .tries) ≡ false
+    → scanLeaves q a (r .position) (r .left) ≡ false
     → noQInStop q a ≡ false → Progress false limit q from r rest (done q a)
 unfolding leaves
 answer-progress limit Stop from r rest a hl some ht hp hs hv hq = rw (not-false (a .q) hq) (stop-done limit from r rest some false hp)

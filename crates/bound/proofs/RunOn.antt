@@ -107,6 +107,19 @@ module _ (c : Command) (sound : SoundCommand c) where
   start-room true Scan e = sound .scan e .room
   start-room false Scan e = tt
 
+-- a literal of the walk lies below B
+pub literal-below : (p : Plan) (pre : List Visit) (k place x : ℕ) (vs : List Visit)
+    → p .visits ≡ pre ++ record { number = k; place = place; instruction = Literal x } ∷ vs
+    → markAfter true (marksOver pre noMarks .incoming) ≤ lastMarks p .incoming
+unfolding marksAfter
+literal-below p pre k place x vs e =
+    let v : Visit = record { number = k; place = place; instruction = Literal x } in
+    omega (
+      arith,
+      ap (λ (m : Marks). m .incoming) (over-snoc pre v noMarks),
+      below (p .visits) (pre ++ v ∷ []) vs noMarks (e ∙ sym (append-snoc pre v vs)) .incoming,
+    )
+
 module _ (slow : Bool) (p : Plan) (incoming outgoing : List ℕ) (hl : 1 ≤ p .limit) where
   -- one visit, given what holds of the visits after it
   at-visit : (k place : ℕ) (i : Instruction) (vs pre : List Visit) (s : State) (t : ℕ)
@@ -132,7 +145,8 @@ module _ (slow : Bool) (p : Plan) (incoming outgoing : List ℕ) (hl : 1 ≤ p .
           position = start-position c ok (qmodeOf (c .transfer)) refl;
           marks = rw sub-self (b .marks);
           bound = near-same slow _ _ _
-              (ap (λ (x : ℕ). s .run .operations + x) (sym (start-most c ok (p .limit) (qmodeOf (c .transfer)) (worstOver (p .limit) vs) refl))) (b .bound);
+              (ap (λ (x : ℕ). s .run .operations + x) (sym (start-most c ok (p .limit) (qmodeOf (c .transfer)) (worstOver (p .limit) vs) refl)))
+              (b .bound);
           room = start-room c ok slow (qmodeOf (c .transfer)) refl;
           status = b .status;
           noted = b .noted;
@@ -154,9 +168,10 @@ module _ (slow : Bool) (p : Plan) (incoming outgoing : List ℕ) (hl : 1 ≤ p .
   at-visit k place (Literal x) vs pre s t ih b =
       let v : Visit = record { number = k; place = place; instruction = Literal x } in
       let split : p .visits ≡ (pre ++ v ∷ []) ++ vs = b .split ∙ sym (append-snoc pre v vs) in
-      let marks : movedBy Incoming true (s .run .marks) ≡ marksOver (pre ++ v ∷ []) noMarks = ap (movedBy Incoming true) (b .marks) ∙ sym (over-snoc pre v noMarks) in
+      let marks : movedBy Incoming true (s .run .marks) ≡ marksOver (pre ++ v ∷ []) noMarks =
+      ap (movedBy Incoming true) (b .marks) ∙ sym (over-snoc pre v noMarks) in
       let under : markAfter true (s .run .marks .incoming) ≤ lastMarks p .incoming =
-      omega (arith, ap (λ (m : Marks). m .incoming) marks, below (p .visits) (pre ++ v ∷ []) vs noMarks split .incoming) in
+      omega (arith, ap (λ (m : Marks). markAfter true (m .incoming)) (b .marks), literal-below p pre k place x vs (b .split)) in
       ih (pre ++ v ∷ []) (putLiteral x s) (record {
         split = split;
         halts = b .halts;
@@ -187,6 +202,7 @@ module _ (slow : Bool) (p : Plan) (incoming outgoing : List ℕ) (hl : 1 ≤ p .
         });
       }
 
-  pub runs-on : (vs pre : List Visit) (s : State) (t : ℕ) → Between slow p pre vs incoming outgoing s t → Reached slow p incoming outgoing (runOn vs s) t
+  pub runs-on : (vs pre : List Visit) (s : State) (t : ℕ) → Between slow p pre vs incoming outgoing s t
+      → Reached slow p incoming outgoing (runOn vs s) t
   runs-on [] pre s t b = absurd (b .halts)
   runs-on (v ∷ vs) pre s t b = at-visit (v .number) (v .place) (v .instruction) vs pre s t (λ pre′ s′. runs-on vs pre′ s′ t) b

@@ -38,7 +38,8 @@ pub done-case : (p : ScanPosition) → DoneCase p (afterDone p)
 unfolding afterDone
 done-case p = go (ltb (p .subaddress) 15) refl
   where
-    go : (t : Bool) → ltb (p .subaddress) 15 ≡ t → DoneCase p (if t then At (record { station = p .station; subaddress = p .subaddress + 1 }) else afterOther p)
+    go : (t : Bool) → ltb (p .subaddress) 15 ≡ t
+        → DoneCase p (if t then At (record { station = p .station; subaddress = p .subaddress + 1 }) else afterOther p)
     go true e = next-subaddress (ltb-true _ _ e)
     go false e = as-other (ltb-false _ _ e) (other-case p)
 
@@ -53,7 +54,8 @@ unfolding mostLeft
 scan-over limit p left rest h = simp (lt-leb _ _ h)
 
 -- at least one position or one answer is left
-pub scan-some : (limit : ℕ) (p : ScanPosition) (left rest : ℕ) → p .station ≤ 23 → p .subaddress ≤ 15 → 1 ≤ left → 1 ≤ mostLeft limit Scan p left 0 rest
+pub scan-some : (limit : ℕ) (p : ScanPosition) (left rest : ℕ) → p .station ≤ 23 → p .subaddress ≤ 15 → 1 ≤ left
+    → 1 ≤ mostLeft limit Scan p left 0 rest
 unfolding positions stations
 scan-some limit p left rest hn ha hl = go (leb left (positions p)) refl
   where
@@ -72,25 +74,36 @@ module _ (limit : ℕ) (p p′ : ScanPosition) (left left′ rest : ℕ) (hn : p
       go : (t : Bool) → leb left (positions p) ≡ t → (u : Bool) → leb left′ (positions p′) ≡ u
           → mostLeft limit Scan p′ left′ 0 rest + 1 ≤ mostLeft limit Scan p left 0 rest
       go true e true e′ = omega (arith, scan-within limit p left rest (leb-true _ _ e), scan-within limit p′ left′ rest (leb-true _ _ e′))
-      go true e false e′ = omega (arith, scan-within limit p left rest (leb-true _ _ e), scan-over limit p′ left′ rest (leb-false _ _ e′), leb-false left′ (positions p′) e′)
+      go true e false e′ = omega (
+        arith,
+        scan-within limit p left rest (leb-true _ _ e),
+        scan-over limit p′ left′ rest
+            (leb-false _ _ e′),
+        leb-false left′ (positions p′) e′,
+      )
       go false e true e′ = omega (arith, over (leb-false left (positions p) e), leb-true left′ (positions p′) e′)
       go false e false e′ = omega (arith, scan-over limit p left rest (leb-false _ _ e), scan-over limit p′ left′ rest (leb-false _ _ e′))
 
 -- a done word with words left after it, and a miss, where the scan does not leave
-pub done-falls : (limit : ℕ) (p : ScanPosition) (left rest : ℕ) → p .station ≤ 23 → p .subaddress ≤ 15 → 2 ≤ left → {x : Moved} → DoneCase p x → ranOff x ≡ false
+pub done-falls : (limit : ℕ) (p : ScanPosition) (left rest : ℕ) → p .station ≤ 23 → p .subaddress ≤ 15 → 2 ≤ left → {x : Moved} → DoneCase p x
+    → ranOff x ≡ false
     → mostLeft limit Scan (reached p x) (left - 1) 0 rest + 1 ≤ mostLeft limit Scan p left 0 rest
 unfolding positions stations
 done-falls limit p left rest hn ha hl (next-subaddress h) e =
-    falls limit p (record { station = p .station; subaddress = p .subaddress + 1 }) left (left - 1) rest hn ha (omega arith) (omega arith) (omega arith) (omega arith) (λ k. omega arith)
+    falls limit p (record { station = p .station; subaddress = p .subaddress + 1 }) left (left - 1) rest hn ha (omega arith) (omega arith)
+    (omega arith) (omega arith) (λ k. omega arith)
 done-falls limit p left rest hn ha hl (as-other h (next-station g)) e =
-    falls limit p (record { station = p .station + 1; subaddress = 0 }) left (left - 1) rest hn ha (omega arith) (omega arith) (omega arith) (omega arith) (λ k. omega arith)
+    falls limit p (record { station = p .station + 1; subaddress = 0 }) left (left - 1) rest hn ha (omega arith) (omega arith) (omega arith)
+    (omega arith) (λ k. omega arith)
 done-falls limit p left rest hn ha hl (as-other h (runs-off g)) e = absurd (true≢false e)
 
-pub other-falls : (limit : ℕ) (p : ScanPosition) (left rest : ℕ) → p .station ≤ 23 → p .subaddress ≤ 15 → 1 ≤ left → {x : Moved} → OtherCase p x → ranOff x ≡ false
+pub other-falls : (limit : ℕ) (p : ScanPosition) (left rest : ℕ) → p .station ≤ 23 → p .subaddress ≤ 15 → 1 ≤ left → {x : Moved} → OtherCase p x
+    → ranOff x ≡ false
     → mostLeft limit Scan (reached p x) left 0 rest + 1 ≤ mostLeft limit Scan p left 0 rest
 unfolding positions stations
 other-falls limit p left rest hn ha hl (next-station g) e =
-    falls limit p (record { station = p .station + 1; subaddress = 0 }) left left rest hn ha hl (omega arith) (omega arith) (omega arith) (λ k. omega arith)
+    falls limit p (record { station = p .station + 1; subaddress = 0 }) left left rest hn ha hl (omega arith) (omega arith) (omega arith)
+    (λ k. omega arith)
 other-falls limit p left rest hn ha hl (runs-off g) e = absurd (true≢false e)
 
 -- the position stays in the range that the record's check allows
@@ -110,7 +123,8 @@ done-range from p r (as-other h s) e = other-range from p r s e
 -- the last word of a scan: one operation and the rest at least; exactly that at station 23
 pub scan-last : (limit : ℕ) (from p : ScanPosition) (left rest : ℕ) → InRange from p → left ≡ 1 → rest + 1 ≤ mostLeft limit Scan p left 0 rest
 unfolding positions stations
-scan-last limit from p left rest h e = omega (arith, scan-within limit p left rest (omega (arith, h .station, h .subaddress)), h .station, h .subaddress)
+scan-last limit from p left rest h e = omega
+    (arith, scan-within limit p left rest (omega (arith, h .station, h .subaddress)), h .station, h .subaddress)
 
 -- The slowest scan -------------------------------------------------------------------------------------------------------
 
@@ -120,10 +134,12 @@ pub record Exactly (limit : ℕ) (p p′ : ScanPosition) (left left′ rest : �
 
 exactly : (limit : ℕ) (p p′ : ScanPosition) (left left′ rest : ℕ) → left ≤ positions p → left′ ≤ positions p′
     → min (positions p′) (left′ - 1 + stations p′) + 1 ≡ min (positions p) (left - 1 + stations p) → Exactly limit p p′ left left′ rest
-exactly limit p p′ left left′ rest h h′ e = record { room = h′; exact = omega (arith, scan-within limit p left rest h, scan-within limit p′ left′ rest h′) }
+exactly limit p p′ left left′ rest h h′ e =
+    record { room = h′; exact = omega (arith, scan-within limit p left rest h, scan-within limit p′ left′ rest h′) }
 
 -- P and S without differences: 16 N + A + P = 384, N + S = 24
-sums : (p : ScanPosition) → p .station ≤ 23 → p .subaddress ≤ 15 → (positions p + 16 * p .station + p .subaddress ≡ 384) × (stations p + p .station ≡ 24)
+sums : (p : ScanPosition) → p .station ≤ 23 → p .subaddress ≤ 15
+    → (positions p + 16 * p .station + p .subaddress ≡ 384) × (stations p + p .station ≡ 24)
 unfolding positions stations
 sums p hn ha = omega arith
 
@@ -137,15 +153,20 @@ miss-exact limit from p left rest r some room hn c (next-station g) =
     let σ′ = sums p′ (omega arith) (omega arith) in
     (refl, exactly limit p p′ left left rest room (fit c σ σ′) (same c σ σ′))
   where
-    fit : ((p .subaddress ≡ 15) × (left < positions p)) ⊎ (left ≡ 1) → (positions p + 16 * p .station + p .subaddress ≡ 384) × (stations p + p .station ≡ 24)
-        → (positions (record { station = p .station + 1; subaddress = 0 }) + 16 * (p .station + 1) + 0 ≡ 384) × (stations (record { station = p .station + 1; subaddress = 0 }) + (p .station + 1) ≡ 24)
+    fit : ((p .subaddress ≡ 15) × (left < positions p)) ⊎ (left ≡ 1)
+        → (positions p + 16 * p .station + p .subaddress ≡ 384) × (stations p + p .station ≡ 24)
+        → (positions (record { station = p .station + 1; subaddress = 0 }) + 16 * (p .station + 1) + 0 ≡ 384) ×
+        (stations (record { station = p .station + 1; subaddress = 0 }) + (p .station + 1) ≡ 24)
         → left ≤ positions (record { station = p .station + 1; subaddress = 0 })
     fit (inl h) σ σ′ = omega arith
     fit (inr h) σ σ′ = omega arith
 
-    same : ((p .subaddress ≡ 15) × (left < positions p)) ⊎ (left ≡ 1) → (positions p + 16 * p .station + p .subaddress ≡ 384) × (stations p + p .station ≡ 24)
-        → (positions (record { station = p .station + 1; subaddress = 0 }) + 16 * (p .station + 1) + 0 ≡ 384) × (stations (record { station = p .station + 1; subaddress = 0 }) + (p .station + 1) ≡ 24)
-        → min (positions (record { station = p .station + 1; subaddress = 0 })) (left - 1 + stations (record { station = p .station + 1; subaddress = 0 })) + 1 ≡ min (positions p) (left - 1 + stations p)
+    same : ((p .subaddress ≡ 15) × (left < positions p)) ⊎ (left ≡ 1)
+        → (positions p + 16 * p .station + p .subaddress ≡ 384) × (stations p + p .station ≡ 24)
+        → (positions (record { station = p .station + 1; subaddress = 0 }) + 16 * (p .station + 1) + 0 ≡ 384) ×
+        (stations (record { station = p .station + 1; subaddress = 0 }) + (p .station + 1) ≡ 24)
+        → min (positions (record { station = p .station + 1; subaddress = 0 }))
+        (left - 1 + stations (record { station = p .station + 1; subaddress = 0 })) + 1 ≡ min (positions p) (left - 1 + stations p)
     same (inl h) σ σ′ = omega arith
     same (inr h) σ σ′ = omega (arith, r .subaddress)
 miss-exact limit from p left rest r some room hn d (runs-off g) = absurd (omega arith)
@@ -165,9 +186,12 @@ done-exact limit from p left rest r two room not-miss (as-other h (next-station 
     let σ′ = sums p′ (omega arith) (omega arith) in
     let full : ¬ (left < positions p) = not-miss g (omega (arith, r .subaddress)) in
     (refl, exactly limit p p′ left (left - 1) rest room (omega (arith, r .subaddress)) (omega (arith, r .subaddress)))
-done-exact limit from p left rest r two room not-miss (as-other h (runs-off g)) = absurd (omega (arith, sums p (r .station) (r .subaddress), r .station))
+done-exact limit from p left rest r two room not-miss (as-other h (runs-off g)) =
+    absurd (omega (arith, sums p (r .station) (r .subaddress), r .station))
 
 -- the last word, done at station 23
-pub last-exact : (limit : ℕ) (from p : ScanPosition) (left rest : ℕ) → InRange from p → left ≡ 1 → 23 ≤ p .station → rest + 1 ≡ mostLeft limit Scan p left 0 rest
+pub last-exact : (limit : ℕ) (from p : ScanPosition) (left rest : ℕ) → InRange from p → left ≡ 1 → 23 ≤ p .station
+    → rest + 1 ≡ mostLeft limit Scan p left 0 rest
 unfolding positions stations
-last-exact limit from p left rest r e hn = omega (arith, scan-within limit p left rest (omega (arith, r .station, r .subaddress)), r .station, r .subaddress)
+last-exact limit from p left rest r e hn =
+    omega (arith, scan-within limit p left rest (omega (arith, r .station, r .subaddress)), r .station, r .subaddress)

@@ -25,7 +25,8 @@ use Rattle.bound.proofs.Admitted.{SoundPlan}
 
 -- Refused calls ----------------------------------------------------------------------------------------------------------
 
-pub refused-keeps : (list : List ℕ) (s : State) (reply : List ℕ) (k : ℕ) → stepOf list s reply .refusal .number ≡ suc k → stepOf list s reply .state ≡ s
+pub refused-keeps : (list : List ℕ) (s : State) (reply : List ℕ) (k : ℕ) → stepOf list s reply .refusal .number ≡ suc k
+    → stepOf list s reply .state ≡ s
 unfolding stepOf
 refused-keeps list s reply k e = by-plan (prepare list (length (s .incoming)) (length (s .outgoing))) e
   where
@@ -39,7 +40,8 @@ refused-keeps list s reply k e = by-plan (prepare list (length (s .incoming)) (l
     by-fit p false e = refl
 
     by-end : (p : Plan) (t : Bool)
-        → (if t then refusedCall (refusal 24) s else if fits p (s .run) then stepReply p (replyOf reply) s else refusedCall (refusal 23) s) .refusal .number ≡ suc k
+        → (if t then refusedCall (refusal 24) s else if fits p (s .run) then stepReply p (replyOf reply) s else refusedCall
+        (refusal 23) s) .refusal .number ≡ suc k
         → (if t then refusedCall (refusal 24) s else if fits p (s .run) then stepReply p (replyOf reply) s else refusedCall (refusal 23) s) .state ≡ s
     by-end p true e = refl
     by-end p false e = by-fit p (fits p (s .run)) e
@@ -75,7 +77,8 @@ calls-taken {list} (refused {s = s} {replies = replies} list′ i o reply k e c)
 -- One call ---------------------------------------------------------------------------------------------------------------
 
 -- a run freshly started, as any run and as the slowest
-pub begun-reached : (slow : Bool) (p : Plan) → SoundPlan p → (incoming outgoing : List ℕ) → Reached slow p incoming outgoing (begun p incoming outgoing) 0
+pub begun-reached : (slow : Bool) (p : Plan) → SoundPlan p → (incoming outgoing : List ℕ)
+    → Reached slow p incoming outgoing (begun p incoming outgoing) 0
 unfolding begun marksOver
 begun-reached slow p sound incoming outgoing = runs-on slow p incoming outgoing (sound .limit-least) (p .visits) [] _ 0 (record {
   split = refl;
@@ -99,7 +102,8 @@ pub take-live : (slow : Bool) (p : Plan) (s : State) → SoundPlan p → (l : Li
 unfolding takeAt takeFrom
 take-live slow p s sound l reply = rw (live-on slow p (s .run) (sound .distinct) l)
 
-module _ (list incoming outgoing : List ℕ) (p : Plan) (prepared : prepare list (length incoming) (length outgoing) ≡ ready p) (sound : SoundPlan p) where
+module _ (list incoming outgoing : List ℕ) (p : Plan) (prepared : prepare list (length incoming) (length outgoing) ≡ ready p)
+    (sound : SoundPlan p) where
   pub start-taken : startOf list incoming outgoing ≡ takenCall p (begun p incoming outgoing)
   unfolding startOf
   start-taken = rw prepared
@@ -131,7 +135,8 @@ module _ (list incoming outgoing : List ℕ) (p : Plan) (prepared : prepare list
       → stepOf list s reply .refusal .number ≡ (if s .run .ended then 24 else if isFormed reply then 0 else 22)
   step-number s t r reply = by-stage (r .stage)
     where
-      by-stage : Live false p (s .run) ⊎ Over false p (s .run) → stepOf list s reply .refusal .number ≡ (if s .run .ended then 24 else if isFormed reply then 0 else 22)
+      by-stage : Live false p (s .run) ⊎ Over false p (s .run)
+          → stepOf list s reply .refusal .number ≡ (if s .run .ended then 24 else if isFormed reply then 0 else 22)
       by-stage (inr v) = ap (λ (x : Called). x .refusal .number) (step-ended false s (r .kept) (v .over) reply)
           ∙ ap (λ (e : Bool). if e then 24 else if isFormed reply then 0 else 22) (sym (v .over))
       by-stage (inl l) = ap (λ (x : Called). x .refusal .number) (step-live false s (r .kept) l reply) ∙ reply-number (replyOf reply) s
@@ -144,7 +149,8 @@ module _ (list incoming outgoing : List ℕ) (p : Plan) (prepared : prepare list
     pub formed : replyOf reply ≡ some answer
     pub state : stepOf list s reply .state ≡ takeReply (p .limit) (live .post) (live .command) answer s
 
-  pub step-taken : (s : State) (t : ℕ) → Reached false p incoming outgoing s t → (reply : List ℕ) → stepOf list s reply .refusal .number ≡ 0 → StepTaken s reply
+  pub step-taken : (s : State) (t : ℕ) → Reached false p incoming outgoing s t → (reply : List ℕ) → stepOf list s reply .refusal .number ≡ 0
+      → StepTaken s reply
   step-taken s t r reply e = by-stage (r .stage)
     where
       by-stage : Live false p (s .run) ⊎ Over false p (s .run) → StepTaken s reply
@@ -155,7 +161,12 @@ module _ (list incoming outgoing : List ℕ) (p : Plan) (prepared : prepare list
           call = step-live false s (r .kept) l reply
 
           by-reply : (x : Option Reply) → replyOf reply ≡ x → StepTaken s reply
-          by-reply none q = absurd (omega (arith, e, ap (λ (x : Called). x .refusal .number) call ∙ ap (λ (x : Option Reply). stepReply p x s .refusal .number) q))
+          by-reply none q = absurd (omega (
+            arith,
+            e,
+            ap (λ (x : Called). x .refusal .number) call
+                ∙ ap (λ (x : Option Reply). stepReply p x s .refusal .number) q,
+          ))
           by-reply (some x) q = record {
             live = l;
             answer = x;

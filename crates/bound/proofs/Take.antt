@@ -38,12 +38,14 @@ first-numbered : (cs : List Check) → Numbered cs → {code : ℕ} {codes : Lis
 first-numbered [] h e = let z : _≡_ {A = ℕ} 0 1 = cc in absurd (omega arith)
 first-numbered (c ∷ cs) h {code} {codes} e = go (c .holds) e (λ f. first-numbered cs (h .1) {code = code} {codes = codes} f)
   where
-    go : (t : Bool) → (if t then c .number ∷ allThatHold cs else allThatHold cs) ≡ code ∷ codes → (allThatHold cs ≡ code ∷ codes → 1 ≤ code) → 1 ≤ code
+    go : (t : Bool) → (if t then c .number ∷ allThatHold cs else allThatHold cs) ≡ code ∷ codes → (allThatHold cs ≡ code ∷ codes → 1 ≤ code)
+        → 1 ≤ code
     go true e ih = let same : c .number ≡ code = cc in omega (arith, h .0)
     go false e ih = ih e
 
 -- every cause has a code from 1 on
-pub cause-numbered : (limit : ℕ) (c : Command) (r : Record) (reply : Reply) {code : ℕ} {codes : List ℕ} → causesOf limit c r reply ≡ code ∷ codes → 1 ≤ code
+pub cause-numbered : (limit : ℕ) (c : Command) (r : Record) (reply : Reply) {code : ℕ} {codes : List ℕ} → causesOf limit c r reply ≡ code ∷ codes
+    → 1 ≤ code
 unfolding causesOf causeChecks
 cause-numbered limit c r NoSync {code} e = let same : 13 ≡ code = cc in omega arith
 cause-numbered limit c r NotRecognised {code} e = let same : 12 ≡ code = cc in omega arith
@@ -75,7 +77,8 @@ module _ (p : Plan) (incoming outgoing : List ℕ) (hl : 1 ≤ p .limit) (hh : H
   takes reply = by-row (causesOf (p .limit) (l .command) (s .run) reply) refl
     where
       by-row : (codes : List ℕ) → causesOf (p .limit) (l .command) (s .run) reply ≡ codes → Reached false p incoming outgoing
-          (byCauses codes (l .post) (l .command) (doneBy (qmodeOf (l .command .transfer)) reply) (longwordOf reply) (withRun (counted (p .limit) (l .command) reply (s .run)) s)) (t + 1)
+          (byCauses codes (l .post) (l .command) (doneBy (qmodeOf (l .command .transfer)) reply) (longwordOf reply)
+          (withRun (counted (p .limit) (l .command) reply (s .run)) s)) (t + 1)
       by-row [] e =
           let clear = no-cause reply e in
           goes-on false p incoming outgoing hl s t l kept count reply (longwordOf reply) (clear .0)

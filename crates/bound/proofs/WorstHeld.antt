@@ -22,12 +22,14 @@ use Rattle.bound.proofs.Admitted.{SoundPlan, prepared-sound, admitted-p
 use Rattle.bound.proofs.Sequences.{refused-keeps, calls-end, calls-taken, start-taken, step-number, row-reached}
 use Rattle.bound.proofs.Ending.{calls-ended}
 
-module _ (list incoming outgoing : List ℕ) (p : Plan) (prepared : prepare list (length incoming) (length outgoing) ≡ ready p) (sound : SoundPlan p) where
+module _ (list incoming outgoing : List ℕ) (p : Plan) (prepared : prepare list (length incoming) (length outgoing) ≡ ready p)
+    (sound : SoundPlan p) where
   -- the state after every sequence of calls is reached
   pub calls-reached : (replies : List (List ℕ)) (s : State) → Calls list (startState list incoming outgoing) replies s
       → Reached false p incoming outgoing s (length replies)
   calls-reached replies s c =
-      subst (λ (x : State). Reached false p incoming outgoing x (length replies)) (sym (calls-end c)) (row-reached list incoming outgoing p prepared sound replies (calls-taken c))
+      subst (λ (x : State). Reached false p incoming outgoing x (length replies)) (sym (calls-end c))
+      (row-reached list incoming outgoing p prepared sound replies (calls-taken c))
 
   all-hold : (replies : List (List ℕ)) (s : State) → Calls list (startState list incoming outgoing) replies s
       → Holds list incoming outgoing (countsOf p) replies s
@@ -52,21 +54,27 @@ module _ (list incoming outgoing : List ℕ) (p : Plan) (prepared : prepare list
 
       bounds : Live false p (s .run) ⊎ Over false p (s .run)
           → (length replies ≤ worstOver (p .limit) (p .visits)) × (length replies ≡ worstOver (p .limit) (p .visits) → s .run .ended ≡ true)
-      bounds (inl l) =
-          (omega (arith, l .bound, r .count, live-some false p (s .run) l), λ e. absurd (omega (arith, l .bound, r .count, live-some false p (s .run) l)))
+      bounds (inl l) = (
+        omega (arith, l .bound, r .count, live-some false p (s .run) l),
+        λ e. absurd
+            (omega (arith, l .bound, r .count, live-some false p (s .run) l)),
+      )
       bounds (inr v) = (omega (arith, v .within, r .count), λ e. v .over)
 
 -- Over the bytes of a list -----------------------------------------------------------------------------------------------
 
-module _ (list incoming outgoing : List ℕ) (c : Counts) (bytes : Bytes list) (admitted : admitOf list (length incoming) (length outgoing) ≡ Admitted c) where
+module _ (list incoming outgoing : List ℕ) (c : Counts) (bytes : Bytes list)
+    (admitted : admitOf list (length incoming) (length outgoing) ≡ Admitted c) where
   pub start-unrefused : startOf list incoming outgoing .refusal .number ≡ 0
-  start-unrefused =
-      let a = admitted-plan list (length incoming) (length outgoing) c admitted in
+  start-unrefused = let a = admitted-plan list (length incoming) (length outgoing) c admitted in
       ap (λ (x : Called). x .refusal .number)
-      (start-taken list incoming outgoing (a .plan) (a .prepared) (prepared-sound list (length incoming) (length outgoing) (a .plan) bytes (a .prepared)))
+      (start-taken list incoming outgoing (a .plan) (a .prepared)
+      (prepared-sound list (length incoming) (length outgoing) (a .plan) bytes (a .prepared)))
 
-  pub worst-held : (replies : List (List ℕ)) (s : State) → Calls list (startState list incoming outgoing) replies s → Holds list incoming outgoing c replies s
+  pub worst-held : (replies : List (List ℕ)) (s : State) → Calls list (startState list incoming outgoing) replies s
+      → Holds list incoming outgoing c replies s
   worst-held replies s calls =
       let a = admitted-plan list (length incoming) (length outgoing) c admitted in
       subst (λ (x : Counts). Holds list incoming outgoing x replies s) (a .counts)
-      (all-hold list incoming outgoing (a .plan) (a .prepared) (prepared-sound list (length incoming) (length outgoing) (a .plan) bytes (a .prepared)) replies s calls)
+      (all-hold list incoming outgoing (a .plan) (a .prepared)
+      (prepared-sound list (length incoming) (length outgoing) (a .plan) bytes (a .prepared)) replies s calls)

@@ -72,17 +72,22 @@ not-misses p left e hn = (
 does-miss : (p : ScanPosition) (left : ℕ) → misses p left ≡ true
     → (p .station < 23) × (((p .subaddress ≡ 15) × (left < positions p)) ⊎ (left ≡ 1))
 unfolding misses
-does-miss p left e =
-    (ltb-true _ _ (and-left _ _ e), why (or-cases (eqb (p .subaddress) 15 && ltb left (positions p)) (eqb left 1) (and-right (ltb (p .station) 23) _ e)))
+does-miss p left e = (
+  ltb-true _ _ (and-left _ _ e),
+  why (or-cases (eqb (p .subaddress) 15 && ltb left (positions p)) (eqb left 1)
+      (and-right (ltb (p .station) 23) _ e)),
+)
   where
-    why : ((eqb (p .subaddress) 15 && ltb left (positions p)) ≡ true) ⊎ (eqb left 1 ≡ true) → ((p .subaddress ≡ 15) × (left < positions p)) ⊎ (left ≡ 1)
+    why : ((eqb (p .subaddress) 15 && ltb left (positions p)) ≡ true) ⊎ (eqb left 1 ≡ true)
+        → ((p .subaddress ≡ 15) × (left < positions p)) ⊎ (left ≡ 1)
     why (inl h) = inl (eqb-true _ _ (and-left _ _ h), ltb-true _ _ (and-right (eqb (p .subaddress) 15) _ h))
     why (inr h) = inr (eqb-true _ _ h)
 
 module _ (limit : ℕ) (from : ScanPosition) (r : Record) (rest : ℕ) (some : 1 ≤ r .left) where
   slowest-scan : TriesOk limit Scan (r .tries) → PositionOk Scan from (r .position) → r .left ≤ positions (r .position)
       → (m : Bool) → misses (r .position) (r .left) ≡ m
-      → (ranOff (afterAnswer (not m) (r .position)) && not (eqb (leftAfter (not m) (r .left)) 0) ≡ false) × Progress true limit Scan from r rest (not m)
+      → (ranOff (afterAnswer (not m) (r .position)) && not
+      (eqb (leftAfter (not m) (r .left)) 0) ≡ false) × Progress true limit Scan from r rest (not m)
   unfolding triesAfter positionAfter
   slowest-scan ht hp room true e =
       let c = does-miss (r .position) (r .left) e in
@@ -100,7 +105,8 @@ module _ (limit : ℕ) (from : ScanPosition) (r : Record) (rest : ℕ) (some : 1
           )
       go false f =
           let two : ¬ (r .left ≡ 1) = eqb-false (r .left) 1 f in
-          let x = done-exact limit from (r .position) (r .left) rest hp (omega arith) room (λ hn. not-misses (r .position) (r .left) e hn .0) (done-case (r .position)) in
+          let x = done-exact limit from (r .position) (r .left) rest hp (omega arith) room (λ hn. not-misses (r .position) (r .left) e hn .0)
+          (done-case (r .position)) in
           (rw (x .0), going (omega arith) refl (done-range from (r .position) hp (done-case (r .position)) (x .0)) (x .1 .room) (rw ht (x .1 .exact)))
 
   slowest-repeat : TriesOk limit Repeat (r .tries) → PositionOk Repeat from (r .position) → 1 ≤ limit → (b : Bool) → eqb (r .tries + 1) limit ≡ b
@@ -129,7 +135,8 @@ module _ (limit : ℕ) (from : ScanPosition) (r : Record) (rest : ℕ) (some : 1
 
 -- no cause
 slowest-clear : (limit : ℕ) (c : Command) (r : Record) (b : Bool) → spent limit (qmodeOf (c .transfer)) (slowestAnswer b) (r .tries) ≡ false
-    → scanLeaves (qmodeOf (c .transfer)) (slowestAnswer b) (r .position) (r .left) ≡ false → noQInStop (qmodeOf (c .transfer)) (slowestAnswer b) ≡ false
+    → scanLeaves (qmodeOf (c .transfer)) (slowestAnswer b) (r .position) (r .left) ≡ false
+    → noQInStop (qmodeOf (c .transfer)) (slowestAnswer b) ≡ false
     → causesOf limit c r (Answered (slowestAnswer b)) ≡ []
 unfolding causesOf causeChecks
 slowest-clear limit c r b hs hv hq = rw (hs, hv, hq, answers-x (qmodeOf (c .transfer)))
@@ -151,18 +158,21 @@ slowest-formed limit q r = go (slowestQ limit q r)
 
 -- The slowest run --------------------------------------------------------------------------------------------------------
 
-module _ (list incoming outgoing : List ℕ) (p : Plan) (prepared : prepare list (length incoming) (length outgoing) ≡ ready p) (sound : SoundPlan p) where
+module _ (list incoming outgoing : List ℕ) (p : Plan) (prepared : prepare list (length incoming) (length outgoing) ≡ ready p)
+    (sound : SoundPlan p) where
   abbrev AtSlowest : State → ℕ → Type 0
   AtSlowest s t = Reached true p incoming outgoing s t
 
   slowest-take : (s : State) (t : ℕ) → AtSlowest s t → (l : Live true p (s .run))
-      → AtSlowest (takeReply (p .limit) (l .post) (l .command) (Answered (slowestAnswer (slowestQ (p .limit) (qmodeOf (l .command .transfer)) (s .run)))) s) (t + 1)
+      → AtSlowest (takeReply (p .limit) (l .post) (l .command)
+      (Answered (slowestAnswer (slowestQ (p .limit) (qmodeOf (l .command .transfer)) (s .run)))) s) (t + 1)
   unfolding takeReply byCauses
   slowest-take s t r l =
       let q : QMode = qmodeOf (l .command .transfer) in
       let a : Answer = slowestAnswer (slowestQ (p .limit) q (s .run)) in
       let x : Slowest (p .limit) q (positionOf (l .command .transfer)) (s .run) (worstOver (p .limit) (l .post)) =
-      slowest-at (p .limit) (positionOf (l .command .transfer)) (s .run) (worstOver (p .limit) (l .post)) (l .some) q (sound .limit-least) (l .tried) (l .position) (l .room) in
+      slowest-at (p .limit) (positionOf (l .command .transfer)) (s .run) (worstOver (p .limit) (l .post)) (l .some) q (sound .limit-least) (l .tried)
+      (l .position) (l .room) in
       rw (slowest-clear (p .limit) (l .command) (s .run) (slowestQ (p .limit) q (s .run)) (x .unspent) (x .stays) (x .answers-q))
       (goes-on true p incoming outgoing (sound .limit-least) s t l (r .kept) (r .count) (Answered a) 0
       (flags-only (p .limit) (l .command) (s .run) a (x .unspent) (x .stays))
@@ -173,7 +183,11 @@ module _ (list incoming outgoing : List ℕ) (p : Plan) (prepared : prepare list
       × AtSlowest (stepOf list s (slowestReply (p .limit) (qmodeOf (l .command .transfer)) (s .run)) .state) (t + 1)
   slowest-step s t r l =
       let q : QMode = qmodeOf (l .command .transfer) in
-      rw (step-live list incoming outgoing p prepared sound true s (r .kept) l (slowestReply (p .limit) q (s .run)), slowest-formed (p .limit) q (s .run))
+      rw (
+        step-live list incoming outgoing p prepared sound true s (r .kept) l (slowestReply (p .limit) q (s .run)),
+        slowest-formed
+            (p .limit) q (s .run),
+      )
       (refl, rw (take-live true p s sound l (Answered (slowestAnswer (slowestQ (p .limit) q (s .run))))) (slowest-take s t r l))
 
   -- m replies that end the run
@@ -206,8 +220,8 @@ module _ (list incoming outgoing : List ℕ) (p : Plan) (prepared : prepare list
 
   attained : Attained list (startState list incoming outgoing) (countsOf p)
   unfolding countsOf
-  attained =
-      let x = to-end (worstOver (p .limit) (p .visits)) (startState list incoming outgoing) 0 (start-reached list incoming outgoing p prepared sound true) (omega arith) in
+  attained = let x = to-end (worstOver (p .limit) (p .visits)) (startState list incoming outgoing) 0
+      (start-reached list incoming outgoing p prepared sound true) (omega arith) in
       let clean = x .over .no-code refl in
       record {
         replies = x .replies;

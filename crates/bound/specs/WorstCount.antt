@@ -140,7 +140,8 @@ pub record Attained (list : List ℕ) (start : State) (c : Counts) : Type 0 wher
   pub mark-in : afterReplies list start replies .run .marks .incoming ≡ c .incoming
   pub mark-out : afterReplies list start replies .run .marks .outgoing ≡ c .outgoing
 
--- "Over every sequence of steps from every start of every admitted list": start is not refused, every sequence holds, and one attains W.
+-- "A list is admitted with two buffer lengths when no refusal up to 21 .. applies to them." "Over every sequence of steps from every start of
+-- every admitted list": start is not refused, every sequence of steps from it holds, and one attains W.
 abbrev pub WorstCount : Type 0
 WorstCount =
     (list incoming outgoing : List ℕ) (c : Counts) → Bytes list
