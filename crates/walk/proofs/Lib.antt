@@ -1,3 +1,8 @@
+pub mod SumLaws
+pub mod TableWalk
+pub mod WalkLaws
+pub mod PrepareLaws
 pub mod Visits
 pub mod MarksGrow
 pub mod Eleven
+pub mod Rest

@@ -1,0 +1,217 @@
+-- The sums of one visit: they are the worst count and the marks of its instruction, because marks go on word by word in both; and they grow
+-- by so little that 4,096 visits stay below 2^60.
+use Prim.Native.Nat.{ℕ, zero, suc, _+_, _*_, _%_, _≤_, _<_}
+use mathlib.Core.Path.{_≡_, refl, sym, ap, _∙_, subst}
+use mathlib.Core.Bool.{Bool, true, false}
+use mathlib.Core.List.{List}
+use mathlib.Core.Option.{some}
+use native.Mathlib.Nat.{mul-le-mul-right}
+use native.Mathlib.Omega.{arith}
+use lib.Dec.{eqb}
+use Rattle.camac.specs.Checks.{if_then_else_}
+use Rattle.camac.specs.Scan.{positions}
+use Rattle.camac.specs.Words.{modeIn, qmodeIn, addressIn, wideIn, blockWords, transferIn, commandIn, qmodeOf, wordsOf, directionOf, positionOf}
+use Rattle.camac.specs.declared.QMode.{QMode}
+use Rattle.camac.specs.declared.QMode.the-variants.{Stop, Ignore, Repeat, Scan}
+use Rattle.camac.specs.declared.Address.{Address}
+use Rattle.camac.specs.declared.Command.{Command}
+use Rattle.camac.specs.declared.Direction.{Direction}
+use Rattle.camac.specs.declared.Direction.the-variants.{Incoming, Outgoing, Neither}
+use Rattle.camac.specs.declared.ScanPosition.{ScanPosition}
+use Rattle.packing.specs.Packing.{padAt, widthOf, markAfterWords}
+use Rattle.packing.specs.declared.Marks.{Marks}
+use Rattle.packing.proofs.MarkFacts.{words-closed}
+use Rattle.listfile.specs.Fields.{tagAt, firstAt, secondAt}
+use Rattle.listfile.specs.Table.{instructionBy, instructionAt}
+use Rattle.listfile.specs.declared.Instruction.{Instruction}
+use Rattle.listfile.specs.declared.Instruction.the-variants.{Camac, Jump, Literal, Halt}
+use Rattle.listfile.specs.declared.Tag.{Tag}
+use Rattle.listfile.specs.declared.Tag.the-variants.{CamacTag, JumpTag, LiteralTag, HaltTag, UnknownTag}
+use Rattle.walk.specs.Walk.{nextOf, movedBy, moved, movedWords, marksAfter}
+use Rattle.walk.specs.Worst.{worstWords, worstOf}
+use Rattle.walk.specs.Sums.{FewWords, addedBy, afterCommand, turnOf}
+use Rattle.walk.specs.declared.Counts.{Counts}
+use Rattle.walk.specs.declared.Turn.the-variants.{To, Stopped}
+
+-- the marks of sums, and sums of a worst count and marks
+abbrev pub marksIn : Counts → Marks
+marksIn s = record { incoming = s .incoming; outgoing = s .outgoing }
+
+abbrev pub countsBy : ℕ → Marks → Counts
+countsBy w m = record { worst = w; incoming = m .incoming; outgoing = m .outgoing }
+
+-- Marks after all words ------------------------------------------------------------------------------------------------------
+
+abbrev marksBy : Direction → Bool → ℕ → Marks → Marks
+marksBy Incoming wide n m = record { incoming = markAfterWords wide n (m .incoming); outgoing = m .outgoing }
+marksBy Outgoing wide n m = record { incoming = m .incoming; outgoing = markAfterWords wide n (m .outgoing) }
+marksBy Neither wide n m = m
+
+by-none : (d : Direction) (wide : Bool) (m : Marks) → m ≡ marksBy d wide 0 m
+unfolding markAfterWords
+by-none Incoming wide m = refl
+by-none Outgoing wide m = refl
+by-none Neither wide m = refl
+
+by-more : (d : Direction) (wide : Bool) (n : ℕ) (m : Marks)
+    → movedBy d wide (marksBy d wide n m) ≡ marksBy d wide (suc n) m
+unfolding markAfterWords
+by-more Incoming wide n m = refl
+by-more Outgoing wide n m = refl
+by-more Neither wide n m = refl
+
+words-marks : (c : Command) (n : ℕ) (m : Marks) → movedWords n c m ≡ marksBy (directionOf (c .transfer)) (c .wide) n m
+unfolding movedWords moved
+words-marks c zero m = by-none (directionOf (c .transfer)) (c .wide) m
+words-marks c (suc n) m = rw (words-marks c n m) (by-more (directionOf (c .transfer)) (c .wide) n m)
+
+command-sums : (limit : ℕ) (c : Command) (s : Counts)
+    → afterCommand limit c s ≡ countsBy (s .worst + worstOf limit (Camac c)) (marksAfter (Camac c) (marksIn s))
+unfolding afterCommand worstOf marksAfter
+command-sums limit c s =
+    by (directionOf (c .transfer)) (c .wide) (wordsOf (c .transfer)) _ ∙ ap
+    (λ (m : Marks). countsBy
+    (s .worst + worstWords limit (qmodeOf (c .transfer)) (positionOf (c .transfer)) (wordsOf (c .transfer))) m)
+    (sym (words-marks c (wordsOf (c .transfer)) (marksIn s)))
+  where
+    by : (d : Direction) (wide : Bool) (n w : ℕ) → addedBy d wide n w s ≡ countsBy w (marksBy d wide n (marksIn s))
+    by Incoming wide n w = refl
+    by Outgoing wide n w = refl
+    by Neither wide n w = refl
+
+-- One visit ------------------------------------------------------------------------------------------------------------------
+
+pub record Went (limit : ℕ) (i : Instruction) (k : ℕ) (s : Counts) (j : ℕ) (s′ : Counts) : Type 0 where
+  pub next : nextOf i k ≡ some j
+  pub sums : s′ ≡ countsBy (s .worst + worstOf limit i) (marksAfter i (marksIn s))
+
+jump-sums : (limit target : ℕ) (s : Counts)
+    → s ≡ countsBy (s .worst + worstOf limit (Jump target)) (marksAfter (Jump target) (marksIn s))
+unfolding worstOf marksAfter
+jump-sums limit target s = ap (λ (w : ℕ). countsBy w (marksIn s)) (omega arith)
+
+abbrev afterLiteral : Counts → Counts
+afterLiteral s = record { worst = s .worst; incoming = markAfterWords true 1 (s .incoming); outgoing = s .outgoing }
+
+literal-sums : (limit v : ℕ) (s : Counts)
+    → afterLiteral s ≡ countsBy (s .worst + worstOf limit (Literal v)) (marksAfter (Literal v) (marksIn s))
+unfolding worstOf marksAfter markAfterWords
+literal-sums limit v s = ap (λ (w : ℕ). countsBy w (movedBy Incoming true (marksIn s))) (omega arith)
+
+pub turn-went : (limit : ℕ) (i : Instruction) (k : ℕ) (s : Counts) (j : ℕ) (s′ : Counts) → turnOf limit i k s ≡ To j s′
+    → Went limit i k s j s′
+unfolding turnOf
+turn-went limit (Camac c) k s j s′ e =
+    record { next = ap some (cc); sums = (let q : s′ ≡ afterCommand limit c s = cc in q) ∙ command-sums limit c s }
+turn-went limit (Jump target) k s j s′ e =
+    record { next = ap some (cc); sums = (let q : s′ ≡ s = cc in q) ∙ jump-sums limit target s }
+turn-went limit (Literal v) k s j s′ e =
+    record { next = ap some (cc); sums = (let q : s′ ≡ afterLiteral s = cc in q) ∙ literal-sums limit v s }
+turn-went limit Halt k s j s′ e = let z : _≡_ {A = ℕ} 0 1 = cc in absurd (omega arith)
+
+pub turn-halts : (limit : ℕ) (i : Instruction) (k : ℕ) (s : Counts) → turnOf limit i k s ≡ Stopped → i ≡ Halt
+unfolding turnOf
+turn-halts limit (Camac c) k s e = let z : _≡_ {A = ℕ} 0 1 = cc in absurd (omega arith)
+turn-halts limit (Jump target) k s e = let z : _≡_ {A = ℕ} 0 1 = cc in absurd (omega arith)
+turn-halts limit (Literal v) k s e = let z : _≡_ {A = ℕ} 0 1 = cc in absurd (omega arith)
+turn-halts limit Halt k s e = refl
+
+-- How little the sums grow -----------------------------------------------------------------------------------------------------
+
+pub product-small : (n limit : ℕ) → limit < 65536 → n ≤ 4294967296 → n * limit ≤ 281474976710656
+product-small n limit h k = omega (arith, mul-le-mul-right limit k)
+
+pub worst-small : (limit : ℕ) (q : QMode) (p : ScanPosition) (n : ℕ) → limit < 65536 → n ≤ 4294967296
+    → worstWords limit q p n ≤ 281474976710656
+unfolding worstWords positions
+worst-small limit Stop p n h k = omega arith
+worst-small limit Ignore p n h k = omega arith
+worst-small limit Repeat p n h k = product-small n limit h k
+worst-small limit Scan p n h k = omega arith
+
+pad-small : (wide : Bool) (m : ℕ) → padAt wide m ≤ 2
+unfolding padAt
+pad-small false m = omega arith
+pad-small true m = go (eqb (m % 4) 2)
+  where
+    go : (b : Bool) → (if b then 2 else 0) ≤ 2
+    go true = omega arith
+    go false = omega arith
+
+mark-small : (wide : Bool) (n m : ℕ) → n ≤ 4294967296 → markAfterWords wide n m ≤ m + 34359738368
+unfolding markAfterWords widthOf
+mark-small wide zero m h = omega arith
+mark-small wide (suc n) m h = rw (words-closed wide n m) (go wide (pad-small wide m))
+  where
+    go : (wide : Bool) → padAt wide m ≤ 2 → m + padAt wide m + suc n * widthOf wide ≤ m + 34359738368
+    go true p = omega arith
+    go false p = omega arith
+
+pub record Grown (s s′ : Counts) : Type 0 where
+  pub worst : s′ .worst ≤ s .worst + 281474976710656
+  pub incoming : s′ .incoming ≤ s .incoming + 34359738368
+  pub outgoing : s′ .outgoing ≤ s .outgoing + 34359738368
+
+command-grows : (limit : ℕ) (c : Command) (s : Counts) → limit < 65536 → wordsOf (c .transfer) ≤ 4294967296
+    → Grown s (afterCommand limit c s)
+unfolding afterCommand
+command-grows limit c s hl h = by (directionOf (c .transfer))
+  where
+    w : ℕ
+    w = worstWords limit (qmodeOf (c .transfer)) (positionOf (c .transfer)) (wordsOf (c .transfer))
+
+    small : w ≤ 281474976710656
+    small = worst-small limit (qmodeOf (c .transfer)) (positionOf (c .transfer)) (wordsOf (c .transfer)) hl h
+
+    by : (d : Direction) → Grown s (addedBy d (c .wide) (wordsOf (c .transfer)) (s .worst + w) s)
+    by Incoming =
+        record
+        { worst = omega (arith, small); incoming = mark-small (c .wide) (wordsOf (c .transfer)) (s .incoming) h; outgoing = omega arith }
+    by Outgoing =
+        record
+        { worst = omega (arith, small); incoming = omega arith; outgoing = mark-small (c .wide) (wordsOf (c .transfer)) (s .outgoing) h }
+    by Neither = record { worst = omega (arith, small); incoming = omega arith; outgoing = omega arith }
+
+pub turn-grows : (limit : ℕ) (i : Instruction) (k : ℕ) (s : Counts) (j : ℕ) (s′ : Counts) → limit < 65536 → FewWords i
+    → turnOf limit i k s ≡ To j s′ → Grown s s′
+unfolding turnOf
+turn-grows limit i k s j s′ hl h e = go i h e
+  where
+    to : (x : Counts) → x ≡ s′ → Grown s x → Grown s s′
+    to x q g = subst (λ (y : Counts). Grown s y) q g
+
+    go : (i : Instruction) → FewWords i → turnOf limit i k s ≡ To j s′ → Grown s s′
+    go (Camac c) h e = to (afterCommand limit c s) (cc) (command-grows limit c s hl h)
+    go (Jump target) h e = to s (cc) (record { worst = omega arith; incoming = omega arith; outgoing = omega arith })
+    go (Literal v) h e =
+        to (afterLiteral s) (cc)
+        (record
+        { worst = omega arith; incoming = mark-small true 1 (s .incoming) (omega arith); outgoing = omega arith })
+    go Halt h e = let z : _≡_ {A = ℕ} 0 1 = cc in absurd (omega arith)
+
+-- Words of an instruction as it lies in the list ---------------------------------------------------------------------------------
+
+transfer-few : (mode : ℕ) (q : QMode) (a : Address) (wide : Bool) (second : ℕ)
+    → wordsOf (transferIn mode q a wide second) ≤ 4294967296
+unfolding transferIn wordsOf blockWords
+transfer-few zero q a wide second = omega arith
+transfer-few (suc zero) q a true second = omega arith
+transfer-few (suc zero) q a false second = omega arith
+transfer-few (suc (suc zero)) q a wide second = omega arith
+transfer-few (suc (suc (suc k))) q a wide second = omega arith
+
+command-few : (first second : ℕ) → wordsOf (commandIn first second .transfer) ≤ 4294967296
+unfolding commandIn
+command-few first second = transfer-few (modeIn first) (qmodeIn first) (addressIn first) (wideIn first) second
+
+by-few : (tag : Tag) (list : List ℕ) (at : ℕ) → FewWords (instructionBy tag list at)
+unfolding instructionBy
+by-few CamacTag list at = command-few (firstAt list at) (secondAt list at)
+by-few JumpTag list at = tt
+by-few LiteralTag list at = tt
+by-few HaltTag list at = tt
+by-few UnknownTag list at = tt
+
+pub words-few : (list : List ℕ) (at : ℕ) (i : Instruction) → i ≡ instructionAt list at → FewWords i
+unfolding instructionAt
+words-few list at i e = subst (λ (x : Instruction). FewWords x) (sym e) (by-few (tagAt list at) list at)
