@@ -4,3 +4,4 @@ pub mod Status
 pub mod Effect
 pub mod Fit
 pub mod Calls
+pub mod Here

@@ -1,0 +1,13 @@
+-- `is_word_size` is two tests, one after the other.
+use borrow.Author.Tests.{eq-eqb, ne-eqb}
+use Rattle.run.proofs.is_word_size.Statement.{statement}
+use Rattle.run.proofs.is_word_size.Tie as tie
+
+returns : tie.Need-returns
+returns c = simp (eq-eqb _ _ (c .if1 .taken))
+
+returns-2 : tie.Need-returns-2
+returns-2 c = simp (ne-eqb _ _ (c .if1 .left))
+
+pub is-word-size-spec : {M : Type 1} → statement M
+is-word-size-spec = tie.close (tie.spec returns returns-2)
