@@ -12,7 +12,6 @@ use native.Mathlib.Nat.{le-of-suc-le-suc, eq-or-lt-of-le}
 use borrow.Author.Tests.{le-leb, lt-leb}
 use lib.ListN.{length, getD, set, drop, length-append, List·getD-append}
 use lib.Seq.{getD-set-same, getD-set-other, drop-cons, drop-nil, getD-append-seam}
-use Rattle.listfile.specs.Bytes.{shortAt}
 use Rattle.listfile.specs.Fields.{nextField, fieldOf, numberOf, Field, Fields, faulty, fields, ahead, fieldsFrom, badTarget, firstBadJump}
 use Rattle.listfile.specs.Table.{instructionAt, placeOf, firstFields, TableRight}
 use Rattle.listfile.specs.declared.Instruction.{Instruction}
@@ -64,22 +63,22 @@ fields-more : (list : List ℕ) (at n : ℕ) → at ≡ placeOf list n
 unfolding firstFields
 fields-more list at n e = rw (add-one n, e)
 
-pub pass-more : (list : List ℕ) (at n fuel len : ℕ) (i : Instruction) → 0 < fuel → at < length list
-    → fieldOf list at n ≡ Read i → at ≡ placeOf list n → len ≡ shortAt list (at + 1)
+pub pass-more : (list : List ℕ) (at n fuel next : ℕ) (i : Instruction) → 0 < fuel → at < length list
+    → fieldOf list at n ≡ Read i → at ≡ placeOf list n → next ≡ nextField list at
     → prefixed (firstFields list n) (fieldsFrom fuel list at n) ≡ prefixed (firstFields list (n + 1))
-    (fieldsFrom (fuel - 1) list (at + 3 + len) (n + 1))
-pass-more list at n zero len i u h e a l = absurd (omega arith)
-pass-more list at n (suc fuel) len i u h e a l =
+    (fieldsFrom (fuel - 1) list next (n + 1))
+pass-more list at n zero next i u h e a l = absurd (omega arith)
+pass-more list at n (suc fuel) next i u h e a l =
     rw (← one-less fuel, l, ← fields-more list at n a, fields-step list at n fuel i h e)
     (prefixed-more (firstFields list n) (here list at) (fieldsFrom fuel list (nextField list at) (n + 1)))
 
-pub pass-turn : (list : List ℕ) (at n len : ℕ) (i : Instruction) → n < length list → at < length list
-    → fieldOf list at n ≡ Read i → at ≡ placeOf list n → len ≡ shortAt list (at + 1)
+pub pass-turn : (list : List ℕ) (at n next : ℕ) (i : Instruction) → n < length list → at < length list
+    → fieldOf list at n ≡ Read i → at ≡ placeOf list n → next ≡ nextField list at
     → prefixed (firstFields list n) (fieldsFrom (length list - n) list at n) ≡ prefixed (firstFields list (n + 1))
-    (fieldsFrom (length list - (n + 1)) list (at + 3 + len) (n + 1))
-pass-turn list at n len i u h e a l =
+    (fieldsFrom (length list - (n + 1)) list next (n + 1))
+pass-turn list at n next i u h e a l =
     let z : length list - (n + 1) ≡ length list - n - 1 = omega arith in
-    rw z (pass-more list at n (length list - n) len i (omega arith) h e a l)
+    rw z (pass-more list at n (length list - n) next i (omega arith) h e a l)
 
 pub pass-end : (list : List ℕ) (at n fuel : ℕ) → 0 < fuel → length list ≤ at
     → prefixed (firstFields list n) (fieldsFrom fuel list at n) ≡ fields (firstFields list n)
@@ -93,10 +92,10 @@ pass-end list at n (suc fuel) u h = rw (le-leb (length list) at h) (ap fields (a
 
 -- The table ----------------------------------------------------------------------------------------------------------------
 
-pub place-more : (list : List ℕ) (at n len : ℕ) → at ≡ placeOf list n → len ≡ shortAt list (at + 1)
-    → at + 3 + len ≡ placeOf list (n + 1)
+pub place-more : (list : List ℕ) (at n next : ℕ) → at ≡ placeOf list n → next ≡ nextField list at
+    → next ≡ placeOf list (n + 1)
 unfolding placeOf
-place-more list at n len e l = rw (add-one n, l, e)
+place-more list at n next e l = rw (add-one n, l, e)
 
 pub table-none : (list table : List ℕ) → TableRight list table 0
 table-none list table = record { entry = λ k h. absurd (omega arith) }

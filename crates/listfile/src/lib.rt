@@ -4,8 +4,9 @@ use camac::Decoded;
 ghost use mathlib.Core.Path.{_≡_};
 ghost use Prim.Native.Nat.{ℕ, _+_, _-_, _*_, _/_, _%_, _≤_, _<_};
 ghost use lib.ListN.{length};
+ghost use lib.Dec.{leb};
 ghost use Rattle.listfile.specs.Bytes.{byteAt, shortAt, longAt};
-ghost use Rattle.listfile.specs.Fields.{tagOf, tagAt, bodyLength, firstAt, secondAt, isUnknown, wrongLength, headFault, numberIn, carriedBy, bodyOf, fieldOf, numberOf, firstFault, fieldsFrom, badTarget, firstBadJump, programOf};
+ghost use Rattle.listfile.specs.Fields.{tagOf, tagAt, bodyLength, nextField, firstAt, secondAt, isUnknown, wrongLength, headFault, numberIn, carriedBy, bodyOf, fieldOf, numberOf, firstFault, fieldsFrom, badTarget, firstBadJump, programOf};
 ghost use Rattle.listfile.specs.Table.{instructionBy, instructionAt, firstFields, TableRight, fieldsBy, TableBy, refusalIn, badJumpBy, listedBy, TableChecked, refusalOf};
 ghost use Rattle.camac.specs.Words.{decodeOf};
 
@@ -109,6 +110,21 @@ fn tag_at(list: &[u8], at: usize) -> Tag
     ensures { λ r. ⌜ r ≡ tagAt (now (list .entry)) at ⌝ }
 {
     tag_of(packing::byte_at(list, at))
+}
+
+// The place behind the field at a place.
+fn next_place(list: &[u8], at: usize) -> usize
+    requires { ⌜ at ≤ 65535 ⌝ }
+    ensures { λ r. ⌜ r ≡ nextField (now (list .entry)) at ⌝ }
+{
+    at + 3 + short_at(list, at + 1)
+}
+
+// No field starts at a place at or past the end.
+fn is_past(list: &[u8], at: usize) -> bool
+    ensures { λ r. ⌜ r ≡ leb (length (now (list .entry))) at ⌝ }
+{
+    list.len() <= at
 }
 
 // The second longword, 0 where the field has none.
@@ -263,14 +279,14 @@ fn pass_fields(list: &[u8], table: &mut [u16]) -> Pass
     let mut at: usize = 7;
     let mut count: usize = 0;
     while at < list.len() {
-        let field = field_at(list, at, count);
+        let field = read_at(list, at, count);
         let FieldRead::Read(_) = field else {
             return Pass::Refused(Refusal {
                 number: number_of(field),
                 place: at,
             });
         };
-        let next = at + 3 + short_at(list, at + 1);
+        let next = next_place(list, at);
         table[count] = at as u16;
         at = next;
         count += 1;
@@ -391,4 +407,51 @@ pub fn refusal_of(c: Checked) -> Refusal
             place: 0,
         },
     }
+}
+
+// A list and the place of its next field. The functions over it leave the work to those over a list and a place.
+pub struct Reader<'a> {
+    pub list: &'a [u8],
+    pub at: usize,
+}
+
+// A reader at the first field.
+pub fn open<'a>(list: &'a [u8]) -> Reader<'a>
+    ensures { λ r. ⌜ (r .list ≡ list .entry) × (r .at ≡ 0) ⌝ }
+{
+    Reader { list, at: 0 }
+}
+
+// The field at the reader, with `count` instructions before it. A place is at most 45,063.
+pub fn read<'a>(r: Reader<'a>, count: usize) -> FieldRead
+    requires { ⌜ r .at ≤ 65535 ⌝ }
+    ensures { λ f. ⌜ f ≡ fieldOf (now (r .entry .list)) (r .entry .at) count ⌝ }
+{
+    field_at(r.list, r.at, count)
+}
+
+// The reader past its field. A place is at most 45,063.
+pub fn moved<'a>(r: Reader<'a>) -> Reader<'a>
+    requires { ⌜ r .at ≤ 65535 ⌝ }
+    ensures { λ q. ⌜ (q .list ≡ r .entry .list) × (q .at ≡ nextField (now (r .entry .list)) (r .entry .at)) ⌝ }
+{
+    Reader {
+        list: r.list,
+        at: next_place(r.list, r.at),
+    }
+}
+
+// No field is left.
+pub fn is_at_end<'a>(r: Reader<'a>) -> bool
+    ensures { λ b. ⌜ b ≡ leb (length (now (r .entry .list))) (r .entry .at) ⌝ }
+{
+    is_past(r.list, r.at)
+}
+
+// The field at a place, by a reader. A place is at most 45,063.
+pub fn read_at(list: &[u8], at: usize, count: usize) -> FieldRead
+    requires { ⌜ at ≤ 65535 ⌝ }
+    ensures { λ f. ⌜ f ≡ fieldOf (now (list .entry)) at count ⌝ }
+{
+    read(Reader { list, at }, count)
 }

@@ -771,7 +771,7 @@ pub fn position_fits(q: QMode, from: ScanPosition, p: ScanPosition) -> bool
 }
 
 // The marks after some words. A block has at most 65,536 words, and admission's marks are below 2^60.
-fn moved_words(words: u64, c: Command, m: Marks) -> Marks
+pub fn moved_words(words: u64, c: Command, m: Marks) -> Marks
     requires { ⌜ (words ≤ 65536) × ((m .incoming ≤ 1152921504606846976) × (m .outgoing ≤ 1152921504606846976)) ⌝ }
     ensures { λ r. ⌜ r ≡ movedWords words c m ⌝ }
 {

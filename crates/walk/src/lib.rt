@@ -102,8 +102,8 @@ fn after_command(limit: u64, c: Command, s: Counts) -> Counts
     }
 }
 
-// One visit.
-fn turn_of(i: Instruction, k: usize, limit: u64, s: Counts) -> Turn
+// One visit; the search for an instruction of the walk makes it too.
+pub fn turn_of(i: Instruction, k: usize, limit: u64, s: Counts) -> Turn
     requires { ⌜ (limit < 65536) × (FewWords i × ((k < 65536) × Below 4611686018427387904 s)) ⌝ }
     ensures { λ r. ⌜ r ≡ turnOf limit i k s ⌝ }
 {

@@ -60,26 +60,28 @@ same-length-2 : tie.Need-same-length-2
 same-length-2 c = search needs
 
 returns-3 : tie.Need-returns-3
-returns-3 c = (
-  list-jumps _ (sym (c .before .before .before .before .before .before .before .before .before .before .before .before .before .first-fault .ensures) ∙ c .before .before .before .before .before .before .before .before .before .before .before .before .if1 .left) _ (c .before .before .before .before .before .before .before .before .before .before .pass-fields .ensures .0) _ (c .before .before .before .before .before .before .pass .given .1) _ (c .before .before .before .check-jumps .ensures) _ (c .before .jumps .given .1),
-  tt,
-)
+returns-3 c =
+    let first = sym (c .before .before .before .before .before .before .before .before .before .before .before .before .before .first-fault .ensures)
+    ∙ c .before .before .before .before .before .before .before .before .before .before .before .before .if1 .left in (
+      list-jumps _ first _ (c .before .before .before .before .before .before .before .before .before .before .pass-fields .ensures .0) _
+          (c .before .before .before .before .before .before .pass .given .1) _ (c .before .before .before .check-jumps .ensures) _
+          (c .before .jumps .given .1),
+      tt,
+    )
 
 same-length-3 : tie.Need-same-length-3
 same-length-3 c = search needs
 
 returns-4 : tie.Need-returns-4
 returns-4 c =
-    let t = table-counted _ _ _ _ (c .before .before .before .before .before .before .pass .given .1)
+    let first = sym (c .before .before .before .before .before .before .before .before .before .before .before .before .before .first-fault .ensures)
+    ∙ c .before .before .before .before .before .before .before .before .before .before .before .before .if1 .left in
+    let table = table-counted _ _ _ _ (c .before .before .before .before .before .before .pass .given .1)
     (c .before .before .before .before .before .before .before .before .before .before .pass-fields .ensures .1) in (
-      list-program _
-          (sym
-          (c .before .before .before .before .before .before .before .before .before .before .before .before .before .first-fault .ensures)
-          ∙ c .before .before .before .before .before .before .before .before .before .before .before .before .if1 .left)
-          _ (c .before .before .before .before .before .before .before .before .before .before .pass-fields .ensures .0) _
-          (c .before .before .before .before .before .before .pass .given .1) _
-          (c .before .before .before .check-jumps .ensures) _ (c .short-at .ensures .0) (c .before .enum-told2 .given .1),
-      (t .0, (c .short-at .ensures .1, t .1)),
+      list-program _ first _ (c .before .before .before .before .before .before .before .before .before .before .pass-fields .ensures .0) _
+          (c .before .before .before .before .before .before .pass .given .1) _ (c .before .before .before .check-jumps .ensures) _
+          (c .short-at .ensures .0) (c .before .enum-told2 .given .1),
+      (table .0, (c .short-at .ensures .1, table .1)),
     )
 
 pub check-list-spec : {M : Type 1} → statement M

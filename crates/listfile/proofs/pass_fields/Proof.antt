@@ -35,8 +35,8 @@ loop-holds c = (
   table-none _ _,
 )
 
-field-at-requires : tie.Need-field-at-requires Inv-loop μ-loop
-field-at-requires c κs = omega arith
+read-at-requires : tie.Need-read-at-requires Inv-loop μ-loop
+read-at-requires c κs = omega arith
 
 enum-told : tie.Need-enum-told Inv-loop μ-loop
 enum-told c = search needs
@@ -55,35 +55,26 @@ same-length c =
 returns : tie.Need-returns Inv-loop μ-loop
 returns c = (
   c .before .before .before .before .before .loop .inv .0 ∙ pass-refused _ _ _ _ _ _ _ _ (omega arith)
-      (c .before .before .before .before .loop-test .taken) (c .before .before .before .field-at .ensures)
+      (c .before .before .before .before .loop-test .taken) (c .before .before .before .read-at .ensures)
       (c .before .enum-told2 .given .1) (c .number-of .ensures),
   tt,
 )
 
-add-next : tie.Need-add-next Inv-loop μ-loop
-add-next c = omega arith
-
-add-short-at : tie.Need-add-short-at Inv-loop μ-loop
-add-short-at c = omega arith
-
-short-at-requires : tie.Need-short-at-requires Inv-loop μ-loop
-short-at-requires c κs = omega arith
-
-add-next-2 : tie.Need-add-next-2 Inv-loop μ-loop
-add-next-2 c = omega arith
+next-place-requires : tie.Need-next-place-requires Inv-loop μ-loop
+next-place-requires c κs = omega arith
 
 cast-table : tie.Need-cast-table Inv-loop μ-loop
 cast-table c =
-    let lies = field-lies _ _ _ _ (sym (c .before .before .before .field-at .ensures) ∙ c .before .enum-told .given .1)
+    let lies = field-lies _ _ _ _ (sym (c .before .before .before .read-at .ensures) ∙ c .before .enum-told .given .1)
     in
-    omega (arith, c .short-at .ensures .0)
+    omega (arith, c .next-place .ensures)
 
 mul-table : tie.Need-mul-table Inv-loop μ-loop
 mul-table c = omega arith
 
 slice-write-table : tie.Need-slice-write-table Inv-loop μ-loop
 slice-write-table c =
-    let lies = field-lies _ _ _ _ (sym (c .before .before .before .field-at .ensures) ∙ c .before .enum-told .given .1)
+    let lies = field-lies _ _ _ _ (sym (c .before .before .before .read-at .ensures) ∙ c .before .enum-told .given .1)
     in
     omega arith
 
@@ -92,21 +83,21 @@ add-count c = omega arith
 
 loop-less : tie.Need-loop-less Inv-loop μ-loop
 loop-less c =
-    let lies = field-lies _ _ _ _ (sym (c .before .before .before .field-at .ensures) ∙ c .before .enum-told .given .1)
+    let lies = field-lies _ _ _ _ (sym (c .before .before .before .read-at .ensures) ∙ c .before .enum-told .given .1)
     in
-    omega (arith, c .short-at .ensures .0)
+    omega (arith, c .next-place .ensures)
 
 loop-again : tie.Need-loop-again Inv-loop μ-loop
 loop-again c =
     let i = c .before .before .before .before .before .loop .inv in
-    let read = sym (c .before .before .before .field-at .ensures) ∙ c .before .enum-told .given .1 in
+    let read = sym (c .before .before .before .read-at .ensures) ∙ c .before .enum-told .given .1 in
     let lies = field-lies _ _ _ _ read in (
       i .0 ∙ pass-turn _ _ _ _ _ (omega arith) (c .before .before .before .before .loop-test .taken) read (i .1)
-          (c .short-at .ensures .0),
-      place-more _ _ _ _ (i .1) (c .short-at .ensures .0),
+          (c .next-place .ensures),
+      place-more _ _ _ _ (i .1) (c .next-place .ensures),
       omega arith,
-      omega (arith, c .short-at .ensures .0),
-      omega (arith, c .short-at .ensures .0),
+      omega (arith, c .next-place .ensures),
+      omega (arith, c .next-place .ensures),
       omega arith,
       simp length-set (i .6),
       table-more _ _ _ _ (i .7) (omega arith) (i .1),
@@ -128,16 +119,13 @@ pass-fields-spec =
     Inv-loop
     μ-loop
     loop-holds
-    field-at-requires
+    read-at-requires
     enum-told
     enum-told-2
     number-of-requires
     same-length
     returns
-    add-next
-    add-short-at
-    short-at-requires
-    add-next-2
+    next-place-requires
     cast-table
     mul-table
     slice-write-table

@@ -14,8 +14,8 @@ use Rattle.walk.proofs.walk.Tie as tie
 
 abbrev Inv-loop : tie.InvT-loop
 Inv-loop list table count limit k₀ visits₀ sums₀ k visits sums =
-    (ahead limit (walkFrom count (firstFields list count) 0) noCounts ≡ ahead limit
-    (walkFrom (count - visits) (firstFields list count) k) sums)
+    (ahead limit (walkFrom count (firstFields list count) 0) noCounts
+    ≡ ahead limit (walkFrom (count - visits) (firstFields list count) k) sums)
     × (visits ≤ count) × (sums .worst ≤ 281474976710656 * visits) × (sums .incoming ≤ 34359738368 * visits)
     × (sums .outgoing ≤ 34359738368 * visits)
 
@@ -56,12 +56,11 @@ enum-told c = search needs
 
 returns-2 : tie.Need-returns-2 Inv-loop μ-loop
 returns-2 c =
-    walk-halted _ _ _
-    (c .before .before .before .before .before .before .before .loop .inv .0 ∙ ahead-halt _ _ _ _ _
-    (field-here _ _ _ _ _ _ (c .before .before .before .before .before .if1 .left)
+    let field = field-here _ _ _ _ _ _ (c .before .before .before .before .before .if1 .left)
     (c .before .before .before .before .before .before .before .before .before .before .pre .1 .1 .1) refl
-    (c .before .before .before .instruction-at .ensures))
-    _ (omega arith) (sym (c .before .before .turn-of .ensures) ∙ c .enum-told .given .1))
+    (c .before .before .before .instruction-at .ensures) in
+    let stopped = sym (c .before .before .turn-of .ensures) ∙ c .enum-told .given .1 in
+    walk-halted _ _ _ (c .before .before .before .before .before .before .before .loop .inv .0 ∙ ahead-halt _ _ _ _ _ field _ (omega arith) stopped)
     (record { worst = omega arith; incoming = omega arith; outgoing = omega arith })
 
 add-visits : tie.Need-add-visits Inv-loop μ-loop
@@ -73,15 +72,13 @@ loop-less c = omega arith
 loop-again : tie.Need-loop-again Inv-loop μ-loop
 loop-again c =
     let i = c .before .before .before .before .before .before .before .before .loop .inv in
+    let field = field-here _ _ _ _ _ _ (c .before .before .before .before .before .before .if1 .left)
+    (c .before .before .before .before .before .before .before .before .before .before .before .pre .1 .1 .1) refl
+    (c .before .before .before .before .instruction-at .ensures) in
     let turn = sym (c .before .before .before .turn-of .ensures) ∙ c .before .turn .given .1 in
-    let grown = turn-grows _ _ _ _ _ _
-    (c .before .before .before .before .before .before .before .before .before .before .before .pre .1 .1 .0)
+    let grown = turn-grows _ _ _ _ _ _ (c .before .before .before .before .before .before .before .before .before .before .before .pre .1 .1 .0)
     (words-few _ _ _ (c .before .before .before .before .instruction-at .ensures)) turn in (
-      i .0 ∙ ahead-turn _ _ _ _ _
-          (field-here _ _ _ _ _ _ (c .before .before .before .before .before .before .if1 .left)
-          (c .before .before .before .before .before .before .before .before .before .before .before .pre .1 .1 .1) refl
-          (c .before .before .before .before .instruction-at .ensures))
-          _ _ _ _ (c .before .before .before .before .before .before .before .loop-test .taken) turn,
+      i .0 ∙ ahead-turn _ _ _ _ _ field _ _ _ _ (c .before .before .before .before .before .before .before .loop-test .taken) turn,
       omega arith,
       omega arith,
       omega arith,

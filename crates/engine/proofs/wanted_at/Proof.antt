@@ -1,0 +1,58 @@
+-- `wanted_at` is `wantedBy`: the instruction that the table has for the record, where it is a CAMAC one.
+use mathlib.Core.Path.{_∙_}
+use native.Mathlib.Omega.{arith}
+use Rattle.engine.proofs.Onward.{wanted-ended, wanted-camac, wanted-none}
+use borrow.Author.Needs.{needs}
+use Rattle.engine.proofs.wanted_at.Statement.{statement}
+use Rattle.engine.proofs.wanted_at.Tie as tie
+
+no-operation-requires : tie.Need-no-operation-requires
+no-operation-requires c κs = search needs
+
+returns : tie.Need-returns
+returns c = c .no-operation .ensures ∙ wanted-ended _ _ _ _ (c .before .if1 .taken)
+
+mul-instruction-at : tie.Need-mul-instruction-at
+mul-instruction-at c = omega (arith, c .before .before .before .before .pre (c .if1 .left) .0)
+
+shared-slice-read-instruction-at : tie.Need-shared-slice-read-instruction-at
+shared-slice-read-instruction-at c = omega (arith, c .before .before .before .before .before .pre (c .before .if1 .left) .0)
+
+instruction-at-requires : tie.Need-instruction-at-requires
+instruction-at-requires c κs = search needs
+
+enum-known-i : tie.Need-enum-known-i
+enum-known-i c = search needs
+
+no-operation-requires-2 : tie.Need-no-operation-requires-2
+no-operation-requires-2 c κs = search needs
+
+returns-2 : tie.Need-returns-2
+returns-2 c =
+    c .no-operation2 .ensures ∙ wanted-none _ _ _ _ (c .before .before .before .before .if1 .left) _ (c .before .before .instruction-at
+    .ensures) (c .before .match .keys2)
+
+operation-of-requires : tie.Need-operation-of-requires
+operation-of-requires c κs =
+    c .before .before .before .before .before .before .before .before .before .pre (c .before .before .before .before .before .if1 .left)
+    .1
+
+returns-3 : tie.Need-returns-3
+returns-3 c =
+    c .operation-of .ensures ∙ wanted-camac _ _ _ _ (c .before .before .before .before .before .before .if1 .left) _ (c .before .before
+    .before .before .instruction-at .ensures) _ (c .before .before .i .given .1)
+
+pub wanted-at-spec : {M : Type 1} → statement M
+wanted-at-spec =
+    tie.close
+    (tie.spec
+    no-operation-requires
+    returns
+    mul-instruction-at
+    shared-slice-read-instruction-at
+    instruction-at-requires
+    enum-known-i
+    no-operation-requires-2
+    returns-2
+    operation-of-requires
+    returns-3)
