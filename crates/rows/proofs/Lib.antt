@@ -1,0 +1,9 @@
+pub mod StepsAreTakes
+pub mod RowLaws
+pub mod TakeTurn
+pub mod CleanRow
+pub mod WordsAhead
+pub mod CleanStore
+pub mod CleanRecord
+pub mod VisitTurn
+pub mod WholeRun

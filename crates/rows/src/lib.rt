@@ -1,0 +1,377 @@
+// The whole run over a row of replies: each instruction is decoded once for its visit, and clean answers have loops of their own.
+use camac::Command;
+use camac::Direction;
+use camac::QMode;
+use listfile::Instruction;
+use listfile::Refusal;
+use listfile::Sizes;
+use packing::Marks;
+use run::Note;
+use run::Ran;
+use run::Record;
+use run::Taken;
+use walk::Preparation;
+ghost use mathlib.Core.Path.{_≡_};
+ghost use mathlib.Core.List.{List};
+ghost use mathlib.Core.Bool.{true, false};
+ghost use Prim.Native.Nat.{ℕ, _+_, _-_, _*_, _%_, _≤_, _<_};
+ghost use lib.Dec.{eqb};
+ghost use lib.ListN.{length, getD};
+ghost use Rattle.camac.specs.Words.{qmodeOf, directionOf};
+ghost use Rattle.packing.specs.Packing.{markAfterWords};
+ghost use Rattle.walk.specs.Walk.{movedWords};
+ghost use Rattle.walk.specs.Sums.{planBy};
+ghost use Rattle.run.specs.Replies.{repliesIn, allFormed};
+ghost use Rattle.run.specs.Calls.{refusedRecord, stateOf, runOf, ranOf};
+ghost use Rattle.rows.specs.Row.{rowFrom, stoppedAt, FormedFrom, Grounds, Stage, Alive, Moves, isNoScan, Clean, cleanStored, cleanBytes, noteBehind, NoteRoom, cleaned, Ahead, Stretch};
+
+// A record with the place of the row that it has come to.
+pub struct Visited {
+    pub run: Record,
+    pub at: usize,
+}
+
+// Whether a row has only replies, to its end.
+pub fn is_row_formed(row: &[u8]) -> bool
+    ensures { λ b. ⌜ b ≡ allFormed (repliesIn (now (row .entry))) ⌝ }
+{
+    let count = row.len() / 8;
+    let mut k: usize = 0;
+    while k < count {
+        if !run::is_formed_at(row, k * 8) {
+            return false;
+        }
+        k += 1;
+    }
+    count * 8 == row.len()
+}
+
+// Whether the reply at a place has Q = X = 1 and no other flag, so that it is an answer: other kinds have no flags.
+fn is_clean_at(row: &[u8], at: usize) -> bool
+    requires { ⌜ at + 2 ≤ length (now row) ⌝ }
+    ensures { λ b. ⌜ b ≡ eqb (getD (now (row .entry)) (at + 1) 0) 3 ⌝ }
+{
+    row[at + 1] == 3
+}
+
+// Clean answers to 16-bit reads: their number, with each word stored.
+fn clean_narrow(incoming: &mut [u8], mark: usize, row: &[u8], from: usize, most: usize) -> usize
+    requires { ⌜ (from + most * 8 ≤ length (now row)) × (mark + most * 2 ≤ length (now incoming)) ⌝ }
+    ensures { λ k. ⌜ (k ≤ most) × (Clean (now (row .entry)) from k
+        × (now (incoming .exit) ≡ cleanStored false (now (row .entry)) from mark k (now (incoming .entry)))) ⌝ }
+{
+    let mut k: usize = 0;
+    while k < most {
+        let at = from + k * 8;
+        if !is_clean_at(row, at) {
+            return k;
+        }
+        let to = mark + k * 2;
+        incoming[to] = row[at + 4];
+        incoming[to + 1] = row[at + 5];
+        k += 1;
+    }
+    k
+}
+
+// Clean answers to 24-bit reads, the first of them without a pad: their number, with each word stored.
+fn clean_wide(incoming: &mut [u8], mark: usize, row: &[u8], from: usize, most: usize) -> usize
+    requires { ⌜ (from + most * 8 ≤ length (now row)) × ((mark + most * 4 ≤ length (now incoming)) × ¬ (mark % 4 ≡ 2)) ⌝ }
+    ensures { λ k. ⌜ (k ≤ most) × (Clean (now (row .entry)) from k
+        × (now (incoming .exit) ≡ cleanStored true (now (row .entry)) from mark k (now (incoming .entry)))) ⌝ }
+{
+    let mut k: usize = 0;
+    while k < most {
+        let at = from + k * 8;
+        if !is_clean_at(row, at) {
+            return k;
+        }
+        let to = mark + k * 4;
+        incoming[to] = row[at + 4];
+        incoming[to + 1] = row[at + 5];
+        incoming[to + 2] = row[at + 6];
+        incoming[to + 3] = 0;
+        k += 1;
+    }
+    k
+}
+
+// Clean answers to writes and controls: their number.
+fn clean_silent(row: &[u8], from: usize, most: usize) -> usize
+    requires { ⌜ from + most * 8 ≤ length (now row) ⌝ }
+    ensures { λ k. ⌜ (k ≤ most) × Clean (now (row .entry)) from k ⌝ }
+{
+    let mut k: usize = 0;
+    while k < most {
+        let at = from + k * 8;
+        if !is_clean_at(row, at) {
+            return k;
+        }
+        k += 1;
+    }
+    k
+}
+
+// Clean answers to reads. Where a pad comes first, none is taken: after that word no pad follows.
+fn clean_read(wide: bool, incoming: &mut [u8], mark: usize, row: &[u8], from: usize, most: usize) -> usize
+    requires { ⌜ (from + most * 8 ≤ length (now row)) × (markAfterWords wide most mark ≤ length (now incoming)) ⌝ }
+    ensures { λ k. ⌜ (k ≤ most) × (Clean (now (row .entry)) from k
+        × (now (incoming .exit) ≡ cleanStored wide (now (row .entry)) from mark k (now (incoming .entry)))) ⌝ }
+{
+    if wide {
+        if mark % 4 == 2 {
+            return 0;
+        }
+        return clean_wide(incoming, mark, row, from, most);
+    }
+    clean_narrow(incoming, mark, row, from, most)
+}
+
+// Clean answers to an instruction.
+fn clean_words(c: Command, incoming: &mut [u8], marks: Marks, row: &[u8], from: usize, most: usize) -> usize
+    requires { ⌜ (from + most * 8 ≤ length (now row)) × (movedWords most c marks .incoming ≤ length (now incoming)) ⌝ }
+    ensures { λ k. ⌜ (k ≤ most) × (Clean (now (row .entry)) from k
+        × (now (incoming .exit) ≡ cleanBytes c (now (row .entry)) from (marks .incoming) k (now (incoming .entry)))) ⌝ }
+{
+    let t = c.transfer;
+    let direction = camac::direction_of(t);
+    match direction {
+        Direction::Incoming => clean_read(c.wide, incoming, marks.incoming, row, from, most),
+        Direction::Outgoing => clean_silent(row, from, most),
+        Direction::Neither => clean_silent(row, from, most),
+    }
+}
+
+// The note of the last of some words, by the marks after it.
+fn note_behind(c: Command, marks: Marks, note: Note) -> Note
+    requires { ⌜ NoteRoom (directionOf (c .transfer)) (c .wide) marks ⌝ }
+    ensures { λ r. ⌜ r ≡ noteBehind (directionOf (c .transfer)) (c .wide) marks note ⌝ }
+{
+    let t = c.transfer;
+    let width = packing::width_of(c.wide);
+    let direction = camac::direction_of(t);
+    match direction {
+        Direction::Incoming => Note {
+            buffer: 0,
+            offset: marks.incoming - width,
+            size: width,
+        },
+        Direction::Outgoing => Note {
+            buffer: 1,
+            offset: marks.outgoing - width,
+            size: width,
+        },
+        Direction::Neither => note,
+    }
+}
+
+// The record after some clean answers, none of them to the last word.
+fn cleaned_record(c: Command, r: Record, words: usize) -> Record
+    requires { ⌜ (words < r .left) × ((r .left ≤ 65536) × ((r .marks .incoming ≤ 1152921504606846976)
+        × ((r .marks .outgoing ≤ 1152921504606846976) × (r .operations ≤ 1152921504606846976)))) ⌝ }
+    ensures { λ x. ⌜ x ≡ cleaned c r words ⌝ }
+{
+    if words == 0 {
+        return r;
+    }
+    let position = r.position;
+    let before = r.marks;
+    let note = r.note;
+    let marks = run::moved_words(words as u64, c, before);
+    Record {
+        ended: false,
+        instruction: r.instruction,
+        left: r.left - words,
+        tries: 0,
+        position: position,
+        marks: marks,
+        operations: r.operations + (words as u64),
+        status: r.status,
+        note: note_behind(c, marks, note),
+    }
+}
+
+fn least(a: usize, b: usize) -> usize
+    ensures { λ r. ⌜ (r ≤ a) × (r ≤ b) ⌝ }
+{
+    if a < b { a } else { b }
+}
+
+// The clean answers from a place on, up to the last word but one.
+fn take_clean(c: Command, r: Record, incoming: &mut [u8], row: &[u8], from: usize) -> Visited
+    requires { ⌜ (isNoScan (qmodeOf (c .transfer)) ≡ true) × ((from ≤ length (now row)) × Ahead c r (now incoming)) ⌝ }
+    ensures { λ v. ⌜ Stretch c r (now (row .entry)) from (now (incoming .entry)) (v .run) (v .at) (now (incoming .exit)) ⌝ }
+{
+    let marks = r.marks;
+    let most = least((row.len() - from) / 8, r.left - 1);
+    let words = clean_words(c, incoming, marks, row, from, most);
+    Visited {
+        run: cleaned_record(c, r, words),
+        at: from + words * 8,
+    }
+}
+
+// Whether the reply at a place looks clean; `fast` says that the instruction is no scan.
+fn meets_clean(fast: bool, row: &[u8], at: usize) -> bool
+    requires { ⌜ at ≤ length (now row) ⌝ }
+    ensures { λ b. ⌜ (b ≡ true → fast ≡ true) ⌝ }
+{
+    if !fast {
+        return false;
+    }
+    if row.len() - at < 2 {
+        return false;
+    }
+    is_clean_at(row, at)
+}
+
+// On over clean answers, where the next reply is one.
+fn pass_clean(
+    fast: bool,
+    c: Command,
+    r: Record,
+    incoming: &mut [u8],
+    row: &[u8],
+    from: usize,
+) -> Visited
+    requires { ⌜ (fast ≡ isNoScan (qmodeOf (c .transfer))) × ((from ≤ length (now row)) × Ahead c r (now incoming)) ⌝ }
+    ensures { λ v. ⌜ Stretch c r (now (row .entry)) from (now (incoming .entry)) (v .run) (v .at) (now (incoming .exit)) ⌝ }
+{
+    if meets_clean(fast, row, from) {
+        return take_clean(c, r, incoming, row, from);
+    }
+    Visited {
+        run: r,
+        at: from,
+    }
+}
+
+fn is_no_scan(c: Command) -> bool
+    ensures { λ b. ⌜ b ≡ isNoScan (qmodeOf (c .transfer)) ⌝ }
+{
+    let t = c.transfer;
+    let q = camac::qmode_of(t);
+    match q {
+        QMode::Stop => true,
+        QMode::Ignore => true,
+        QMode::Repeat => true,
+        QMode::Scan => false,
+    }
+}
+
+// The replies of one instruction, up to its last word or the end, and on along the walk.
+fn visit_replies(
+    list: &[u8],
+    table: &[u16],
+    sizes: Sizes,
+    c: Command,
+    first: Record,
+    incoming: &mut [u8],
+    row: &[u8],
+    from: usize,
+) -> Visited
+    requires { ⌜ Grounds (now list) (now table) sizes (length (now incoming)) × (FormedFrom (now row) from × Alive (planBy (now list) sizes) c first) ⌝ }
+    ensures { λ v. ⌜ Moves (planBy (now (list .entry)) sizes) (now (row .entry)) first from (now (incoming .entry)) (v .run) (v .at) (now (incoming .exit))
+        × (from < length (now (row .entry)) → from < v .at) ⌝ }
+{
+    let fast = is_no_scan(c);
+    let mut here = first;
+    let mut at = from;
+    loop {
+        let v = pass_clean(fast, c, here, incoming, row, at);
+        if row.len() <= v.at {
+            return v;
+        }
+        let reply = run::reply_at(row, v.at);
+        let taken = run::take_here(sizes.limit, c, reply, v.run, incoming);
+        at = v.at + 8;
+        let Taken::Same(r) = taken else {
+            return Visited {
+                run: engine::resume(list, table, sizes.count, taken, incoming),
+                at: at,
+            };
+        };
+        here = r;
+    }
+}
+
+// The replies of a row, up to the end of the run.
+fn run_replies(
+    list: &[u8],
+    table: &[u16],
+    sizes: Sizes,
+    first: Record,
+    incoming: &mut [u8],
+    row: &[u8],
+) -> Visited
+    requires { ⌜ Grounds (now list) (now table) sizes (length (now incoming)) × (FormedFrom (now row) 0 × Stage (planBy (now list) sizes) first) ⌝ }
+    ensures { λ v. ⌜ ((outgoing : List ℕ) → rowFrom (planBy (now (list .entry)) sizes) (now (row .entry)) 0 (stateOf first (now (incoming .entry)) outgoing)
+        ≡ stoppedAt (v .at) (stateOf (v .run) (now (incoming .exit)) outgoing)) ⌝ }
+{
+    let mut here = first;
+    let mut at: usize = 0;
+    while at < row.len() {
+        if here.ended {
+            return Visited {
+                run: here,
+                at: at,
+            };
+        }
+        let k = here.instruction;
+        let i = listfile::instruction_at(list, table[k]);
+        let Instruction::Camac(c) = i else {
+            return Visited {
+                run: here,
+                at: at,
+            };
+        };
+        let v = visit_replies(list, table, sizes, c, here, incoming, row, at);
+        here = v.run;
+        at = v.at;
+    }
+    Visited {
+        run: here,
+        at: at,
+    }
+}
+
+// A run refused before it starts.
+fn refused_run(refusal: Refusal) -> Ran
+    ensures { λ r. ⌜ r ≡ record { refusal = refusal; taken = 0; run = refusedRecord } ⌝ }
+{
+    Ran {
+        refusal: refusal,
+        taken: 0,
+        run: run::zero_record(true),
+    }
+}
+
+// The whole run of a list over a row of replies: start and steps, up to the end or until replies run out.
+pub fn run_row(list: &[u8], incoming: &mut [u8], outgoing: &[u8], row: &[u8]) -> Ran
+    ensures { λ r. ⌜ (r ≡ ranOf (runOf (now (list .entry)) (now (incoming .entry)) (now (outgoing .entry)) (now (row .entry))))
+        × (now (incoming .exit) ≡ runOf (now (list .entry)) (now (incoming .entry)) (now (outgoing .entry)) (now (row .entry)) .state .incoming) ⌝ }
+{
+    let mut table = [0u16; 4096];
+    let prepared = walk::prepare(list, &mut table, incoming.len(), outgoing.len());
+    let Preparation::Ready(plan) = prepared else {
+        return refused_run(walk::refusal_in(prepared));
+    };
+    if !is_row_formed(row) {
+        return refused_run(Refusal {
+            number: 22,
+            place: 0,
+        });
+    }
+    let sizes = plan.sizes;
+    let first = engine::run_on(list, &table, sizes.count, 0, run::zero_record(false), incoming);
+    let v = run_replies(list, &table, sizes, first, incoming, row);
+    let r = v.run;
+    Ran {
+        refusal: Refusal {
+            number: 0,
+            place: 0,
+        },
+        taken: v.at / 8,
+        run: r,
+    }
+}
