@@ -182,8 +182,8 @@ module _ (c : Command) (r : Record) where
       let left : r .left - suc k - 1 ≡ r .left - suc (suc k) = omega arith in
       let operations : r .operations + suc k + 1 ≡ r .operations + suc (suc k) = omega arith in
       let note =
-          note-behind (directionOf (c .transfer)) (c .wide) (cleaned c r (suc k))
-          ∙ note-once (directionOf (c .transfer)) (c .wide) _ _ (r .note) in
+      note-behind (directionOf (c .transfer)) (c .wide) (cleaned c r (suc k))
+      ∙ note-once (directionOf (c .transfer)) (c .wide) _ _ (r .note) in
       λ i. record {
         ended = false;
         instruction = r .instruction;
@@ -255,7 +255,7 @@ module _ (p : Plan) (sound : SoundPlan p) (c : Command) (row : List ℕ) where
   clean-words r from b al f (suc k) mode clean few within =
       let before = clean-words r from b al f k (λ h. mode (omega arith)) (λ j h. clean j (omega arith)) (omega arith) (omega arith) in
       let one = clean-once (cleaned c r k) (from + k * 8) (cleanBytes c row from (r .marks .incoming) k b) (mode (omega arith))
-          (before .alive) (before .formed) (omega arith) (λ e. omega (arith, cleaned-left c r k)) (clean k (omega arith)) in
+      (before .alive) (before .formed) (omega arith) (λ e. omega (arith, cleaned-left c r k)) (clean k (omega arith)) in
       record {
         alive = subst (Alive p c) (cleaned-more c r k) (one .alive);
         formed = subst (λ (at : ℕ). FormedFrom row at) same (one .formed);

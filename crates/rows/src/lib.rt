@@ -113,7 +113,14 @@ fn clean_silent(row: &[u8], from: usize, most: usize) -> usize
 }
 
 // Clean answers to reads. Where a pad comes first, none is taken: after that word no pad follows.
-fn clean_read(wide: bool, incoming: &mut [u8], mark: usize, row: &[u8], from: usize, most: usize) -> usize
+fn clean_read(
+    wide: bool,
+    incoming: &mut [u8],
+    mark: usize,
+    row: &[u8],
+    from: usize,
+    most: usize,
+) -> usize
     requires { ⌜ (from + most * 8 ≤ length (now row)) × (markAfterWords wide most mark ≤ length (now incoming)) ⌝ }
     ensures { λ k. ⌜ (k ≤ most) × (Clean (now (row .entry)) from k
         × (now (incoming .exit) ≡ cleanStored wide (now (row .entry)) from mark k (now (incoming .entry)))) ⌝ }
@@ -128,7 +135,14 @@ fn clean_read(wide: bool, incoming: &mut [u8], mark: usize, row: &[u8], from: us
 }
 
 // Clean answers to an instruction.
-fn clean_words(c: Command, incoming: &mut [u8], marks: Marks, row: &[u8], from: usize, most: usize) -> usize
+fn clean_words(
+    c: Command,
+    incoming: &mut [u8],
+    marks: Marks,
+    row: &[u8],
+    from: usize,
+    most: usize,
+) -> usize
     requires { ⌜ (from + most * 8 ≤ length (now row)) × (movedWords most c marks .incoming ≤ length (now incoming)) ⌝ }
     ensures { λ k. ⌜ (k ≤ most) × (Clean (now (row .entry)) from k
         × (now (incoming .exit) ≡ cleanBytes c (now (row .entry)) from (marks .incoming) k (now (incoming .entry)))) ⌝ }
@@ -240,10 +254,7 @@ fn pass_clean(
     if meets_clean(fast, row, from) {
         return take_clean(c, r, incoming, row, from);
     }
-    Visited {
-        run: r,
-        at: from,
-    }
+    Visited { run: r, at: from }
 }
 
 fn is_no_scan(c: Command) -> bool
@@ -312,27 +323,18 @@ fn run_replies(
     let mut at: usize = 0;
     while at < row.len() {
         if here.ended {
-            return Visited {
-                run: here,
-                at: at,
-            };
+            return Visited { run: here, at: at };
         }
         let k = here.instruction;
         let i = listfile::instruction_at(list, table[k]);
         let Instruction::Camac(c) = i else {
-            return Visited {
-                run: here,
-                at: at,
-            };
+            return Visited { run: here, at: at };
         };
         let v = visit_replies(list, table, sizes, c, here, incoming, row, at);
         here = v.run;
         at = v.at;
     }
-    Visited {
-        run: here,
-        at: at,
-    }
+    Visited { run: here, at: at }
 }
 
 // A run refused before it starts.
@@ -363,7 +365,14 @@ pub fn run_row(list: &[u8], incoming: &mut [u8], outgoing: &[u8], row: &[u8]) ->
         });
     }
     let sizes = plan.sizes;
-    let first = engine::run_on(list, &table, sizes.count, 0, run::zero_record(false), incoming);
+    let first = engine::run_on(
+        list,
+        &table,
+        sizes.count,
+        0,
+        run::zero_record(false),
+        incoming,
+    );
     let v = run_replies(list, &table, sizes, first, incoming, row);
     let r = v.run;
     Ran {

@@ -45,15 +45,15 @@ same-length c = search needs
 -- src/lib.rt:201:1
 returns : tie.Need-returns
 returns c = let w = c .before .before .before .clean-words .ensures in record {
-      words = c .before .before .before .clean-words .result;
-      mode = λ h. c .before .before .before .before .before .before .before .before .before .before .pre .0;
-      clean = w .1 .0;
-      fewer = omega (arith, w .0, c .before .before .before .before .before .least .ensures .1, c .before .before .before .before .before .before .before .before .before .before .pre .1 .1 .some);
-      within = omega (arith, w .0, c .before .before .before .before .before .least .ensures .0);
-      leaves = c .cleaned-record .ensures;
-      place = refl;
-      bytes = w .1 .1;
-    }
+  words = c .before .before .before .clean-words .result;
+  mode = λ h. c .before .before .before .before .before .before .before .before .before .before .pre .0;
+  clean = w .1 .0;
+  fewer = omega (arith, w .0, c .before .before .before .before .before .least .ensures .1, c .before .before .before .before .before .before .before .before .before .before .pre .1 .1 .some);
+  within = omega (arith, w .0, c .before .before .before .before .before .least .ensures .0);
+  leaves = c .cleaned-record .ensures;
+  place = refl;
+  bytes = w .1 .1;
+}
 
 pub take-clean-spec : {M : Type 1} → statement M
 take-clean-spec =

@@ -75,9 +75,10 @@ same-length-2 c = c .before .before .resume .kept .1 .1 .1 .1 .0 ∙ c .before .
 
 -- src/lib.rt:289:13
 returns-2 : tie.Need-returns-2 Inv-loop μ-loop
-returns-2 c = let i = c .before .before .before .before .before .before .before .before .before .before .before .before .before .before .before .before .before .loop .inv in let g = c .before .before .before .before .before .before .before .before .before .before .before .before .before .before .before .before .before .before .before .before .before .before .before .pre .0 in let x = passes _ (grounds-sound _ _ _ _ g) _ _ (i .0) (c .before .before .before .before .before .before .before .before .before .before .before .before .before .before .before .pass-clean .ensures) in
-    (stays-moves _ _ _ x (moves _ _ _ _ g _ _ (x .alive) _ _ _ (c .before .before .before .before .before .before .before .before .take-here .ensures .1) _ (c .before .before .before .before .before .before .before .before .take-here .ensures .0) _ _ (x .formed) (c .before .before .before .before .before .before .before .before .before .before .before .if1 .left) (c .before .before .before .before .before .before .before .before .before .before .reply-at .ensures) _ _ (c .before .before .resume .ensures)),
-    λ h. omega (arith, i .1, c .before .before .before .before .before .before .before .before .before .before .before .before .before .before .before .pass-clean .ensures .place))
+returns-2 c = let i = c .before .before .before .before .before .before .before .before .before .before .before .before .before .before .before .before .before .loop .inv in let g = c .before .before .before .before .before .before .before .before .before .before .before .before .before .before .before .before .before .before .before .before .before .before .before .pre .0 in let x = passes _ (grounds-sound _ _ _ _ g) _ _ (i .0) (c .before .before .before .before .before .before .before .before .before .before .before .before .before .before .before .pass-clean .ensures) in (
+  stays-moves _ _ _ x (moves _ _ _ _ g _ _ (x .alive) _ _ _ (c .before .before .before .before .before .before .before .before .take-here .ensures .1) _ (c .before .before .before .before .before .before .before .before .take-here .ensures .0) _ _ (x .formed) (c .before .before .before .before .before .before .before .before .before .before .before .if1 .left) (c .before .before .before .before .before .before .before .before .before .before .reply-at .ensures) _ _ (c .before .before .resume .ensures)),
+  λ h. omega (arith, i .1, c .before .before .before .before .before .before .before .before .before .before .before .before .before .before .before .pass-clean .ensures .place),
+)
 
 -- src/lib.rt:280:5
 loop-less : tie.Need-loop-less Inv-loop μ-loop
@@ -85,9 +86,11 @@ loop-less c = omega (arith, c .before .before .before .before .before .before .b
 
 -- src/lib.rt:280:5
 loop-again : tie.Need-loop-again Inv-loop μ-loop
-loop-again c = let i = c .before .before .before .before .before .before .before .before .before .before .before .before .before .before .before .loop .inv in let g = c .before .before .before .before .before .before .before .before .before .before .before .before .before .before .before .before .before .before .before .before .before .pre .0 in let x = passes _ (grounds-sound _ _ _ _ g) _ _ (i .0) (c .before .before .before .before .before .before .before .before .before .before .before .before .before .pass-clean .ensures) in
-    (stays-on _ _ _ x (stays _ _ _ _ g _ _ (x .alive) _ _ _ (c .before .before .before .before .before .before .take-here .ensures .1) _ (c .before .before .before .before .before .before .take-here .ensures .0) _ _ (x .formed) (c .before .before .before .before .before .before .before .before .before .if1 .left) (c .before .before .before .before .before .before .before .before .reply-at .ensures) _ (c .before .taken .given .1)),
-    omega (arith, i .1, c .before .before .before .before .before .before .before .before .before .before .before .before .before .pass-clean .ensures .place), c .before .before .before .before .before .before .take-here .kept .1 .1 .1 .1 .0 ∙ c .before .before .before .before .before .before .before .before .before .before .before .before .before .pass-clean .kept .1 .1 .1 .0 ∙ i .2)
+loop-again c = let i = c .before .before .before .before .before .before .before .before .before .before .before .before .before .before .before .loop .inv in let g = c .before .before .before .before .before .before .before .before .before .before .before .before .before .before .before .before .before .before .before .before .before .pre .0 in let x = passes _ (grounds-sound _ _ _ _ g) _ _ (i .0) (c .before .before .before .before .before .before .before .before .before .before .before .before .before .pass-clean .ensures) in (
+  stays-on _ _ _ x (stays _ _ _ _ g _ _ (x .alive) _ _ _ (c .before .before .before .before .before .before .take-here .ensures .1) _ (c .before .before .before .before .before .before .take-here .ensures .0) _ _ (x .formed) (c .before .before .before .before .before .before .before .before .before .if1 .left) (c .before .before .before .before .before .before .before .before .reply-at .ensures) _ (c .before .taken .given .1)),
+  omega (arith, i .1, c .before .before .before .before .before .before .before .before .before .before .before .before .before .pass-clean .ensures .place),
+  c .before .before .before .before .before .before .take-here .kept .1 .1 .1 .1 .0 ∙ c .before .before .before .before .before .before .before .before .before .before .before .before .before .pass-clean .kept .1 .1 .1 .0 ∙ i .2,
+)
 
 pub visit-replies-spec : {M : Type 1} → statement M
 visit-replies-spec =

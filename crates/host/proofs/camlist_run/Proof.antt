@@ -1,0 +1,21 @@
+-- `host::camlist_run` meets its contract: its numbers are those of what the whole run yields, and the incoming bytes are the whole run's.
+use mathlib.Core.Path.{ap, _∙_}
+use Rattle.host.specs.Numbers.{runNumbers}
+use borrow.Author.Needs.{needs}
+use Rattle.host.proofs.camlist_run.Statement.{statement}
+use Rattle.host.proofs.camlist_run.Tie as tie
+
+run-row-requires : tie.Need-run-row-requires
+run-row-requires c κs = search needs
+
+run-numbers-requires : tie.Need-run-numbers-requires
+run-numbers-requires c κs = search needs
+
+same-length : tie.Need-same-length
+same-length c = search needs
+
+returns : tie.Need-returns
+returns c = (c .run-numbers .ensures ∙ ap runNumbers (c .before .before .before .run-row .ensures .0), c .before .before .before .run-row .ensures .1)
+
+pub camlist-run-spec : {M : Type 1} → statement M
+camlist-run-spec = tie.close (tie.spec run-row-requires run-numbers-requires same-length returns)
