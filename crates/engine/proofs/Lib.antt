@@ -2,3 +2,4 @@ pub mod Onward
 pub mod PlanLaws
 pub mod Place
 pub mod StepLaws
+pub mod InPlace

@@ -8,10 +8,10 @@ use mathlib.Core.List.{List, [], _∷_}
 use mathlib.Core.Option.{some}
 use native.Mathlib.Omega.{arith}
 use borrow.Author.Tests.{leb-true, leb-false}
-use lib.Dec.{leb}
-use lib.ListN.{length, getD}
 use types.Run.{OneOf}
 use denote.Enum.Declared.{tagOf}
+use lib.Dec.{leb}
+use lib.ListN.{length, getD}
 use Rattle.camac.specs.declared.Command.{Command}
 use Rattle.listfile.specs.Fields.{Field}
 use Rattle.listfile.specs.Table.{instructionAt, firstFields, TableRight}

@@ -26,6 +26,7 @@ ghost use Rattle.run.specs.Calls.{notRefused, noOperation, stateOf, refusal, st
 ghost use Rattle.run.specs.Here.{resumed};
 ghost use Rattle.engine.specs.Onward.{Prepared, Going, recordIn, GoingBy, Askable, wantedBy};
 ghost use Rattle.engine.specs.Place.{noSums, foundAt, findIn, fitsBy, Small};
+ghost use Rattle.engine.specs.InPlace.{answerOf};
 
 // A CAMAC instruction of the walk with the sums before it and the worst count after it, or none of that number.
 pub enum Found {
@@ -248,4 +249,30 @@ pub fn step(list: &[u8], r: Record, incoming: &mut [u8], outgoing: &[u8], reply:
         return refuse(walk::refusal_in(prepared), r);
     };
     step_planned(list, &table, plan, r, incoming, outgoing, reply)
+}
+
+// What a step answers beside the record and the buffers lent to it.
+pub struct Answered {
+    pub refusal: Refusal,
+    pub wanted: Operation,
+}
+
+// The record lent to the step holds the new state afterwards.
+pub fn step_in_place(
+    list: &[u8],
+    record: &mut Record,
+    incoming: &mut [u8],
+    outgoing: &[u8],
+    reply: &[u8],
+) -> Answered
+    ensures { λ y. ⌜ (y ≡ answerOf (stepOf (now (list .entry)) (stateOf (now («record» .entry)) (now (incoming .entry)) (now (outgoing .entry))) (now (reply .entry))))
+        × (now («record» .exit) ≡ stepOf (now (list .entry)) (stateOf (now («record» .entry)) (now (incoming .entry)) (now (outgoing .entry))) (now (reply .entry)) .state .run)
+        × (now (incoming .exit) ≡ stepOf (now (list .entry)) (stateOf (now («record» .entry)) (now (incoming .entry)) (now (outgoing .entry))) (now (reply .entry)) .state .incoming) ⌝ }
+{
+    let y = step(list, *record, incoming, outgoing, reply);
+    *record = y.run;
+    Answered {
+        refusal: y.refusal,
+        wanted: y.wanted,
+    }
 }

@@ -2,7 +2,7 @@
 -- right below the mark that it moved.
 use Prim.Native.Nat.{ℕ, zero, suc, _+_, _-_, _≤_}
 use mathlib.Core.Path.{_≡_, refl, sym, ap, _∙_, subst}
-use mathlib.Core.Bool.{Bool, true, false}
+use mathlib.Core.Bool.{Bool, false}
 use mathlib.Core.List.{List}
 use native.Mathlib.Omega.{arith}
 use lib.ListN.{length}
@@ -21,10 +21,12 @@ use Rattle.rows.specs.Row.{cleanStored, cleanBytes, noteBehind, NoteRoom
 use Rattle.rows.proofs.CleanRow.{bytes-none}
 
 module _ (c : Command) (m : Marks) {d : Direction} where
-  pub width-incoming : d ≡ directionOf (c .transfer) → d ≡ Incoming → NoteRoom (directionOf (c .transfer)) (c .wide) m → widthOf (c .wide) ≤ m .incoming
+  pub width-incoming : d ≡ directionOf (c .transfer) → d ≡ Incoming → NoteRoom (directionOf (c .transfer)) (c .wide) m
+      → widthOf (c .wide) ≤ m .incoming
   width-incoming ed e h = subst (λ (x : Direction). NoteRoom x (c .wide) m) (sym ed ∙ e) h
 
-  pub width-outgoing : d ≡ directionOf (c .transfer) → d ≡ Outgoing → NoteRoom (directionOf (c .transfer)) (c .wide) m → widthOf (c .wide) ≤ m .outgoing
+  pub width-outgoing : d ≡ directionOf (c .transfer) → d ≡ Outgoing → NoteRoom (directionOf (c .transfer)) (c .wide) m
+      → widthOf (c .wide) ≤ m .outgoing
   width-outgoing ed e h = subst (λ (x : Direction). NoteRoom x (c .wide) m) (sym ed ∙ e) h
 
   module _ (n : Note) {width : ℕ} where

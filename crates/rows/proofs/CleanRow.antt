@@ -4,34 +4,32 @@ use Prim.Native.Nat.{ℕ, zero, suc, _+_, _-_, _*_, _%_, _≤_, _<_}
 use mathlib.Core.Path.{_≡_, refl, sym, ap, _∙_, subst}
 use mathlib.Core.Logic.{_⊎_, inl, inr}
 use mathlib.Core.Bool.{Bool, true, false, _||_, false≢true}
-use mathlib.Core.List.{List, []}
+use mathlib.Core.List.{List}
 use mathlib.Core.Option.{some}
 use native.Mathlib.Omega.{arith}
 use borrow.Author.Tests.{ne-eqb, eqb-true}
 use lib.Bits.{bitOr, or-zero-r}
 use lib.Dec.{eqb, ltb}
 use lib.ListN.{length, getD, take, drop}
-use Rattle.camac.specs.Checks.{if_then_else_}
 use Rattle.camac.specs.Words.{qmodeOf, directionOf}
 use Rattle.camac.specs.declared.QMode.{QMode}
 use Rattle.camac.specs.declared.QMode.the-variants.{Stop, Ignore, Repeat, Scan}
 use Rattle.camac.specs.declared.Command.{Command}
 use Rattle.camac.specs.declared.Direction.{Direction}
 use Rattle.camac.specs.declared.Direction.the-variants.{Incoming, Outgoing, Neither}
-use Rattle.listfile.specs.Bytes.{byteAt}
 use Rattle.camac.proofs.Bools.{and-left, and-right, or-cases}
 use Rattle.packing.specs.Packing.{widthOf, markAfter, stored}
 use Rattle.packing.specs.declared.Marks.{Marks}
+use Rattle.listfile.specs.Bytes.{byteAt}
 use Rattle.walk.specs.Walk.{movedBy, moved, movedWords}
 use Rattle.walk.specs.Admission.{Plan}
 use Rattle.run.specs.Replies.{replyOf, isFormed, hasForm}
 use Rattle.run.specs.Causes.{doneBy, causeChecks, causesOf, codeOf}
 use Rattle.run.specs.Status.{flagsOf}
 use Rattle.run.specs.Effect.{noteAfter, movedRecord, movedBytes, counted, waiting, triesAfter, positionAfter}
-use Rattle.run.specs.Calls.{stateOf, takeAt}
+use Rattle.run.specs.Calls.{stateOf}
 use Rattle.run.specs.Here.{onRun, hereRun, hereBuffer}
 use Rattle.run.specs.declared.Answer.{Answer}
-use Rattle.run.specs.declared.Reply.{Reply}
 use Rattle.run.specs.declared.Reply.the-variants.{Answered}
 use Rattle.run.specs.declared.Note.{Note}
 use Rattle.run.specs.declared.Record.{Record}
@@ -92,7 +90,8 @@ module _ (limit : ℕ) (c : Command) (r : Record) (word : ℕ) where
     next : waiting (r .left - 1) 0 (r .position) (movedRecord c (counted limit c (Answered (cleanAnswer word)) r)) ≡ cleanNext c r
     unfolding waiting movedRecord counted
     next =
-        let status : bitOr (r .status) (flagsOf limit c r (Answered (cleanAnswer word))) ≡ r .status = rw (fine .flags) (or-zero-r (r .status)) in
+        let status : bitOr (r .status) (flagsOf limit c r (Answered (cleanAnswer word))) ≡ r .status = rw (fine .flags)
+        (or-zero-r (r .status)) in
         λ i. record {
           ended = false;
           instruction = r .instruction;
@@ -110,14 +109,16 @@ module _ (limit : ℕ) (c : Command) (r : Record) (word : ℕ) where
     clean-run h =
         sym (rw (fine .code, fine .isDone, ne-eqb (r .left) 1 h, fine .tries, fine .position) (ap Same next))
 
-    clean-buffer : (b : List ℕ) → movedBytes c (word % 16777216) (r .marks .incoming) b ≡ hereBuffer limit c (Answered (cleanAnswer word)) r b
+    clean-buffer : (b : List ℕ)
+        → movedBytes c (word % 16777216) (r .marks .incoming) b ≡ hereBuffer limit c (Answered (cleanAnswer word)) r b
     unfolding hereBuffer
     clean-buffer b = rw (fine .code, fine .isDone)
 
 -- formed bytes with flags are an answer: the other kinds have every other byte zero
 answers : (bytes : List ℕ) → isFormed bytes ≡ true → ¬ (byteAt bytes 1 ≡ 0) → byteAt bytes 0 ≡ 0
 unfolding replyOf hasForm
-answers bytes formed flagged = go (or-cases (eqb (byteAt bytes 0) 0) (eqb (byteAt bytes 1 + byteAt bytes 4 + byteAt bytes 5 + byteAt bytes 6) 0) last)
+answers bytes formed flagged = go
+    (or-cases (eqb (byteAt bytes 0) 0) (eqb (byteAt bytes 1 + byteAt bytes 4 + byteAt bytes 5 + byteAt bytes 6) 0) last)
   where
     form : hasForm bytes ≡ true
     form = on (hasForm bytes) (λ e. e) (λ e. absurd (false≢true (rw e at formed)))
@@ -127,7 +128,8 @@ answers bytes formed flagged = go (or-cases (eqb (byteAt bytes 0) 0) (eqb (byteA
         (and-right (eqb (byteAt bytes 7) 0) _ (and-right (eqb (byteAt bytes 3) 0) _ (and-right (eqb (byteAt bytes 2) 0) _
         (and-right (ltb (byteAt bytes 1) 64) _ (and-right (eqb (length bytes) 8) _ form)))))
 
-    go : (eqb (byteAt bytes 0) 0 ≡ true) ⊎ (eqb (byteAt bytes 1 + byteAt bytes 4 + byteAt bytes 5 + byteAt bytes 6) 0 ≡ true) → byteAt bytes 0 ≡ 0
+    go : (eqb (byteAt bytes 0) 0 ≡ true) ⊎ (eqb (byteAt bytes 1 + byteAt bytes 4 + byteAt bytes 5 + byteAt bytes 6) 0 ≡ true)
+        → byteAt bytes 0 ≡ 0
     go (inl e) = eqb-true _ 0 e
     go (inr e) = absurd (flagged (omega (arith, eqb-true (byteAt bytes 1 + byteAt bytes 4 + byteAt bytes 5 + byteAt bytes 6) 0 e)))
 
@@ -218,14 +220,16 @@ module _ (c : Command) (r : Record) where
         go Incoming e =
             let mark = ap (λ (m : Marks). m .incoming) (cleaned-marks k ∙ sym (words-incoming c Incoming (sym e) (r .marks) refl k)) in
             rw e (ap
-            (λ (m : ℕ). stored (c .wide) (wordIn row (from + k * 8) % 16777216) m (cleanStored (c .wide) row from (r .marks .incoming) k b)) mark)
+            (λ (m : ℕ). stored (c .wide) (wordIn row (from + k * 8) % 16777216) m (cleanStored (c .wide) row from (r .marks .incoming) k b))
+            mark)
         go Outgoing e = rw e
         go Neither e = rw e
 
 -- A stretch --------------------------------------------------------------------------------------------------------------
 
 module _ (p : Plan) (sound : SoundPlan p) (c : Command) (row : List ℕ) where
-  clean-once : (r : Record) (at : ℕ) (b : List ℕ) → isNoScan (qmodeOf (c .transfer)) ≡ true → Alive p c r → FormedFrom row at → at < length row
+  clean-once : (r : Record) (at : ℕ) (b : List ℕ) → isNoScan (qmodeOf (c .transfer)) ≡ true → Alive p c r → FormedFrom row at
+      → at < length row
       → ¬ (r .left ≡ 1) → getD row (at + 1) 0 ≡ 3
       → Stays p c row r at b (cleanNext c r) (at + 8) (movedBytes c (wordIn row at % 16777216) (r .marks .incoming) b)
   clean-once r at b mode al f h more flags =

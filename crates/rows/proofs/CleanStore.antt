@@ -1,14 +1,14 @@
 -- The words of clean answers in the incoming buffer, as the loops store them byte by byte: without a pad the k-th word lies k widths behind the
 -- first, and the bytes of a word are those of its reply.
-use Prim.Native.Nat.{ℕ, zero, suc, _+_, _*_, _/_, _%_, _≤_, _<_}
-use mathlib.Core.Path.{_≡_, refl, sym, ap, _∙_}
-use mathlib.Core.Bool.{Bool, true, false}
+use Prim.Native.Nat.{ℕ, zero, suc, _+_, _*_, _/_, _%_, _<_}
+use mathlib.Core.Path.{_≡_, refl, ap, _∙_}
+use mathlib.Core.Bool.{true, false}
 use mathlib.Core.List.{List}
 use native.Mathlib.Omega.{arith}
 use native.Mathlib.Numerals.{add-one}
 use borrow.Author.Tests.{ne-eqb}
 use lib.ListN.{getD, set}
-use Rattle.packing.specs.Packing.{padAt, widthOf, markAfterWords, bytesOf, stored}
+use Rattle.packing.specs.Packing.{padAt, widthOf, markAfterWords, stored}
 use Rattle.packing.proofs.MarkFacts.{words-closed}
 use Rattle.rows.specs.Row.{wordIn, cleanStored}
 
@@ -64,7 +64,9 @@ module _ (row : List ℕ) (from k : ℕ) (low : getD row (from + k * 8 + 4) 0 < 
   narrow-more e = rw (add-one k, ← e, narrow-mark k mark, word .first, word .second, add-one (mark + k * 2))
 
   pub wide-more : ¬ (mark % 4 ≡ 2) → now ≡ cleanStored true row from mark k before
-      → set (set (set (set now (mark + k * 4) (getD row (from + k * 8 + 4) 0)) (mark + k * 4 + 1) (getD row (from + k * 8 + 5) 0)) (mark + k * 4 + 2) (getD row (from + k * 8 + 6) 0))
+      → set
+      (set (set (set now (mark + k * 4) (getD row (from + k * 8 + 4) 0)) (mark + k * 4 + 1) (getD row (from + k * 8 + 5) 0))
+      (mark + k * 4 + 2) (getD row (from + k * 8 + 6) 0))
       (mark + k * 4 + 3) 0
       ≡ cleanStored true row from mark (k + 1) before
   unfolding cleanStored stored
@@ -72,4 +74,16 @@ module _ (row : List ℕ) (from k : ℕ) (low : getD row (from + k * 8 + 4) 0 < 
       let p : padAt true (mark + k * 4) ≡ 0 = no-pad (mark + k * 4) (λ z. h (omega arith)) in
       let two : suc (suc (mark + k * 4)) ≡ mark + k * 4 + 2 = omega arith in
       let three : suc (suc (suc (mark + k * 4))) ≡ mark + k * 4 + 3 = omega arith in
-      rw (add-one k, ← e, wide-mark k mark h, p, word .first, word .second, word .third, word .fourth, add-one (mark + k * 4), ← two, ← three)
+      rw (
+        add-one k,
+        ← e,
+        wide-mark k mark h,
+        p,
+        word .first,
+        word .second,
+        word .third,
+        word .fourth,
+        add-one (mark + k * 4),
+        ← two,
+        ← three,
+      )

@@ -98,7 +98,8 @@ module _ (row : List ℕ) (at : ℕ) where
 
   -- The run over a row ---------------------------------------------------------------------------------------------------
 
-  pub row-turn : (p : Plan) (s : State) (reply : Reply) → at < length row → s .run .ended ≡ false → replyOf (take 8 (drop at row)) ≡ some reply
+  pub row-turn : (p : Plan) (s : State) (reply : Reply) → at < length row → s .run .ended ≡ false
+      → replyOf (take 8 (drop at row)) ≡ some reply
       → rowFrom p row at s ≡ rowFrom p row (at + 8) (takeAt p reply s)
   unfolding rowFrom
   row-turn p s reply h e f =

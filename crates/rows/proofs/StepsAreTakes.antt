@@ -2,7 +2,7 @@
 -- again, so that no step looks at the list anew. A run that is refused is refused before it starts.
 use Prim.Native.Nat.{ℕ, _+_}
 use mathlib.Core.Path.{_≡_, refl, sym, ap, ap₂, _∙_}
-use mathlib.Core.Logic.{_⊎_, inl, inr}
+use mathlib.Core.Logic.{inl, inr}
 use mathlib.Core.Bool.{Bool, true, false, true≢false, false≢true}
 use mathlib.Core.List.{List, [], _∷_}
 use mathlib.Core.Option.{Option, none, some}
@@ -10,14 +10,14 @@ use lib.ListN.{length}
 use Rattle.camac.specs.Checks.{if_then_else_}
 use Rattle.listfile.specs.declared.Refusal.{Refusal}
 use Rattle.walk.specs.Admission.{Plan, unfit, ready, prepare}
-use Rattle.run.specs.Replies.{replyOf, isSome, isFormed, repliesIn, allFormed}
+use Rattle.run.specs.Replies.{replyOf, isSome, repliesIn, allFormed}
 use Rattle.run.specs.Effect.{State}
 use Rattle.run.specs.Fit.{fits}
-use Rattle.run.specs.Calls.{notRefused, Called, refusal, begun, startOf, takeAt, stepReply, stepOf, RunThrough, stepsOver, refusedRun, runOf}
+use Rattle.run.specs.Calls.{notRefused, Called, refusal, begun, takeAt, stepReply, stepOf, stepsOver, refusedRun, runOf}
 use Rattle.run.specs.declared.Reply.{Reply}
 use Rattle.bound.proofs.Admitted.{SoundPlan}
 use Rattle.bound.proofs.Sequences.{start-state}
-use Rattle.bound.proofs.FitKept.{FitKept, fit-begun, fit-kept, step-fits}
+use Rattle.bound.proofs.FitKept.{fit-begun, fit-kept, step-fits}
 use Rattle.rows.specs.Row.{takeBytes, takesOver, rowFrom, Stage}
 
 -- a formed row's first reply, and the rest of it
@@ -74,7 +74,8 @@ module _ (list : List ℕ) (p : Plan) (sound : SoundPlan p) where
       head = formed-head r rs formed
 
       go : (b : Bool) → s .run .ended ≡ b
-          → ((taken : ℕ) (s : State) → prepare list (length (s .incoming)) (length (s .outgoing)) ≡ ready p → allFormed rs ≡ true → Stage p (s .run)
+          → ((taken : ℕ) (s : State) → prepare list (length (s .incoming)) (length (s .outgoing)) ≡ ready p → allFormed rs ≡ true
+          → Stage p (s .run)
           → stepsOver list rs taken s ≡ takesOver p rs taken s)
           → stepsOver list (r ∷ rs) taken s ≡ takesOver p (r ∷ rs) taken s
       go true e ih = if-true _ _ e ∙ sym (takes-over p (r ∷ rs) taken s e)

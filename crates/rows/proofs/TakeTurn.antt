@@ -1,18 +1,16 @@
 -- One reply taken at a record that waits at a decoded instruction, as code takes it: record and buffer are those of the definition, and what
 -- is left waits at the same instruction, goes on behind it, or has ended.
-use Prim.Native.Nat.{ℕ, _+_, _≤_}
+use Prim.Native.Nat.{ℕ, _≤_}
 use mathlib.Core.Path.{_≡_, refl, sym, ap, ap₂, _∙_, subst}
-use mathlib.Core.Logic.{_⊎_, inl, inr}
+use mathlib.Core.Logic.{inl, inr}
 use mathlib.Core.Bool.{Bool, true, false, true≢false}
 use mathlib.Core.List.{List, []}
 use native.Mathlib.Omega.{arith}
 use borrow.Author.Tests.{eqb-true}
 use lib.Dec.{eqb}
-use lib.ListN.{length}
 use Rattle.camac.specs.Words.{qmodeOf}
 use Rattle.camac.specs.declared.Command.{Command}
-use Rattle.packing.specs.declared.Marks.{Marks}
-use Rattle.walk.specs.Walk.{Visit, onFrom, moved}
+use Rattle.walk.specs.Walk.{onFrom, moved}
 use Rattle.walk.specs.Admission.{Plan}
 use Rattle.run.specs.Causes.{doneBy, codeOf}
 use Rattle.run.specs.Effect.{State, movedRecord, counted, waiting, takeReply}
@@ -22,10 +20,9 @@ use Rattle.run.specs.Here.{onRun, hereRun, hereBuffer, resumed}
 use Rattle.run.specs.declared.Reply.{Reply}
 use Rattle.run.specs.declared.Record.{Record}
 use Rattle.run.specs.declared.Taken.{Taken}
-use Rattle.run.specs.declared.Taken.the-variants.{Same, Through, Ended}
+use Rattle.run.specs.declared.Taken.the-variants.{Same, Through}
 use Rattle.run.proofs.TestFacts.{on}
 use Rattle.run.proofs.TakeHere.{take-here}
-use Rattle.bound.specs.WorstCount.{WaitsAt}
 use Rattle.bound.proofs.Live.{fits-live, live-waits}
 use Rattle.bound.proofs.Admitted.{SoundPlan}
 use Rattle.bound.proofs.FitKept.{fits-numbers, fit-kept}
@@ -100,7 +97,8 @@ module _ (p : Plan) (sound : SoundPlan p) (c : Command) (r : Record) (al : Alive
   unfolding takeAt takeFrom
   take-at reply b outgoing = rw (al .waits .found, al .waits .camac)
 
-  module _ (reply : Reply) (b b′ : List ℕ) (eb : b′ ≡ hereBuffer (p .limit) c reply r b) (taken : Taken) (et : taken ≡ hereRun (p .limit) c reply r) where
+  module _ (reply : Reply) (b b′ : List ℕ) (eb : b′ ≡ hereBuffer (p .limit) c reply r b) (taken : Taken)
+      (et : taken ≡ hereRun (p .limit) c reply r) where
     -- what code makes of a reply is the reply taken
     pub took : (outgoing : List ℕ) → takeAt p reply (stateOf r b outgoing) ≡ resumed (al .rest) taken b′ outgoing
     took outgoing =

@@ -1,9 +1,9 @@
 -- One turn of the loop over the replies of an instruction, and of the loop over visits: what a reply leaves stays at the instruction, or goes on
 -- along the walk behind it; and a record that waits has its instruction in the table.
-use Prim.Native.Nat.{ℕ, _+_, _≤_, _<_}
+use Prim.Native.Nat.{ℕ, _+_, _<_}
 use mathlib.Core.Path.{_≡_, refl, sym, ap, _∙_, subst}
-use mathlib.Core.Logic.{_⊎_, inl, inr, ⊎-elim}
-use mathlib.Core.Bool.{true, false, true≢false}
+use mathlib.Core.Logic.{inr, ⊎-elim}
+use mathlib.Core.Bool.{false}
 use mathlib.Core.List.{List, [], _∷_}
 use mathlib.Core.Option.{some}
 use native.Mathlib.Omega.{arith}
@@ -42,11 +42,13 @@ module _ (p : Plan) (c : Command) (row : List ℕ) where
   pub stays-here : (r : Record) (at : ℕ) (b : List ℕ) → Alive p c r → FormedFrom row at → Stays p c row r at b r at b
   stays-here r at b al f = record { alive = al; formed = f; goes = λ outgoing. refl }
 
-  pub stays-on : {r r₁ r₂ : Record} {from at₁ at₂ : ℕ} {b b₁ b₂ : List ℕ} → Stays p c row r from b r₁ at₁ b₁ → Stays p c row r₁ at₁ b₁ r₂ at₂ b₂
+  pub stays-on : {r r₁ r₂ : Record} {from at₁ at₂ : ℕ} {b b₁ b₂ : List ℕ} → Stays p c row r from b r₁ at₁ b₁
+      → Stays p c row r₁ at₁ b₁ r₂ at₂ b₂
       → Stays p c row r from b r₂ at₂ b₂
   stays-on x y = record { alive = y .alive; formed = y .formed; goes = λ outgoing. x .goes outgoing ∙ y .goes outgoing }
 
-  pub stays-moves : {r r₁ r₂ : Record} {from at₁ at₂ : ℕ} {b b₁ b₂ : List ℕ} → Stays p c row r from b r₁ at₁ b₁ → Moves p row r₁ at₁ b₁ r₂ at₂ b₂
+  pub stays-moves : {r r₁ r₂ : Record} {from at₁ at₂ : ℕ} {b b₁ b₂ : List ℕ} → Stays p c row r from b r₁ at₁ b₁
+      → Moves p row r₁ at₁ b₁ r₂ at₂ b₂
       → Moves p row r from b r₂ at₂ b₂
   stays-moves x y = record { stage = y .stage; formed = y .formed; goes = λ outgoing. x .goes outgoing ∙ y .goes outgoing }
 
@@ -57,8 +59,8 @@ module _ (p : Plan) (row : List ℕ) where
   pub moves-none : (r : Record) (at : ℕ) (b : List ℕ) → Stage p r → FormedFrom row at → Moves p row r at b r at b
   moves-none r at b st f = record { stage = st; formed = f; goes = λ outgoing. refl }
 
-  pub moves-on : {r r₁ r₂ : Record} {from at₁ at₂ : ℕ} {b b₁ b₂ : List ℕ} → Moves p row r from b r₁ at₁ b₁ → Moves p row r₁ at₁ b₁ r₂ at₂ b₂
-      → Moves p row r from b r₂ at₂ b₂
+  pub moves-on : {r r₁ r₂ : Record} {from at₁ at₂ : ℕ} {b b₁ b₂ : List ℕ} → Moves p row r from b r₁ at₁ b₁
+      → Moves p row r₁ at₁ b₁ r₂ at₂ b₂ → Moves p row r from b r₂ at₂ b₂
   moves-on x y = record { stage = y .stage; formed = y .formed; goes = λ outgoing. x .goes outgoing ∙ y .goes outgoing }
 
 -- a stretch of clean answers passed
@@ -72,11 +74,13 @@ grounds-at {list} {table} {s} e g = subst (Grounds list table s) (sym e) g
 
 -- A reply ----------------------------------------------------------------------------------------------------------------
 
-module _ (list table : List ℕ) (s : Sizes) (room : ℕ) (g : Grounds list table s room) (c : Command) (r : Record) (al : Alive (planBy list s) c r) where
+module _ (list table : List ℕ) (s : Sizes) (room : ℕ) (g : Grounds list table s room) (c : Command) (r : Record)
+    (al : Alive (planBy list s) c r) where
   pub ready : (b : List ℕ) → length b ≡ room → Ready c r b
   ready b e = ready-here list table s (g .counts) room (g .outgoing) (g .prepared) r c (al .rest) (al .waits) (al .fit) b e
 
-  module _ (reply : Reply) (b b′ : List ℕ) (eb : b′ ≡ hereBuffer (s .limit) c reply r b) (taken : Taken) (et : taken ≡ hereRun (s .limit) c reply r) where
+  module _ (reply : Reply) (b b′ : List ℕ) (eb : b′ ≡ hereBuffer (s .limit) c reply r b) (taken : Taken)
+      (et : taken ≡ hereRun (s .limit) c reply r) where
     -- behind the last word the run has room for the rest of the walk
     pub going : length b′ ≡ room → GoingBy list (s .count) taken b′
     going e = by taken et
@@ -86,7 +90,8 @@ module _ (list table : List ℕ) (s : Sizes) (room : ℕ) (g : Grounds list tabl
         by (Through x) q =
             let w = through-last (s .limit) c reply r x (sym q) in
             subst (λ (k : ℕ). Going list (s .count) (k + 1) x b′) (sym (w .instruction))
-            (going-next list table s (g .counts) room (g .outgoing) (g .prepared) r c (al .rest) (al .waits) (al .fit) x b′ (w .one) (w .marks) e)
+            (going-next list table s (g .counts) room (g .outgoing) (g .prepared) r c (al .rest) (al .waits) (al .fit) x b′ (w .one)
+            (w .marks) e)
         by (Ended x) q = tt
 
     rest-behind : (outgoing : List ℕ)
@@ -106,7 +111,8 @@ module _ (list table : List ℕ) (s : Sizes) (room : ℕ) (g : Grounds list tabl
       turn : (t : State) (outgoing : List ℕ) → takeAt (planBy list s) reply (stateOf r b outgoing) ≡ t
           → rowFrom (planBy list s) row at (stateOf r b outgoing) ≡ rowFrom (planBy list s) row (at + 8) t
       turn t outgoing e =
-          row-turn row at (planBy list s) (stateOf r b outgoing) reply h (alive-waits (planBy list s) (grounds-sound list table s room g) c r al) er
+          row-turn row at (planBy list s) (stateOf r b outgoing) reply h
+          (alive-waits (planBy list s) (grounds-sound list table s room g) c r al) er
           ∙ ap (rowFrom (planBy list s) row (at + 8)) e
 
       pub stays : (r′ : Record) → taken ≡ Same r′ → Stays (planBy list s) c row r at b r′ (at + 8) b′
@@ -119,19 +125,22 @@ module _ (list table : List ℕ) (s : Sizes) (room : ℕ) (g : Grounds list tabl
       }
 
       pub moves : (next : Record) (b″ : List ℕ)
-          → ((outgoing : List ℕ) → stateOf next b″ outgoing ≡ resumed (restFrom list (s .count) (recordIn taken .instruction + 1)) taken b′ outgoing)
+          → ((outgoing : List ℕ)
+          → stateOf next b″ outgoing ≡ resumed (restFrom list (s .count) (recordIn taken .instruction + 1)) taken b′ outgoing)
           → Moves (planBy list s) row r at b next (at + 8) b″
       moves next b″ en = record {
         stage = took-stage (planBy list s) (grounds-sound list table s room g) c r al reply b b′ eb taken et (stateOf next b″ [])
             (sym (en [] ∙ rest-behind []));
         formed = formed-here row at f h .behind;
         goes = λ outgoing. turn (stateOf next b″ outgoing) outgoing
-            (took (planBy list s) (grounds-sound list table s room g) c r al reply b b′ eb taken et outgoing ∙ sym (en outgoing ∙ rest-behind outgoing));
+            (took (planBy list s) (grounds-sound list table s room g) c r al reply b b′ eb taken et outgoing ∙ sym
+            (en outgoing ∙ rest-behind outgoing));
       }
 
 -- An instruction ---------------------------------------------------------------------------------------------------------
 
-module _ (list table : List ℕ) (s : Sizes) (room : ℕ) (g : Grounds list table s room) (r : Record) (st : Stage (planBy list s) r) (waits : r .ended ≡ false) where
+module _ (list table : List ℕ) (s : Sizes) (room : ℕ) (g : Grounds list table s room) (r : Record) (st : Stage (planBy list s) r)
+    (waits : r .ended ≡ false) where
   here : (c : Command) × Alive (planBy list s) c r
   here = stage-alive (planBy list s) (grounds-sound list table s room g) r st waits
 
@@ -139,13 +148,15 @@ module _ (list table : List ℕ) (s : Sizes) (room : ℕ) (g : Grounds list tabl
   tabled = in-table list table s (g .counts) room (g .outgoing) (g .prepared) r (here .0) (here .1 .rest) (here .1 .waits)
 
   -- what the table has is the instruction at which the record waits
-  pub decoded : (i : Instruction) → i ≡ instructionAt list (getD table (r .instruction) 0) → (c : Command) × ((i ≡ Camac c) × Alive (planBy list s) c r)
+  pub decoded : (i : Instruction) → i ≡ instructionAt list (getD table (r .instruction) 0)
+      → (c : Command) × ((i ≡ Camac c) × Alive (planBy list s) c r)
   decoded i e = (
     here .0,
     (e ∙ command-at list table s (g .counts) room (g .outgoing) (g .prepared) r (here .0) (here .1 .rest) (here .1 .waits), here .1),
   )
 
-  pub decoded-as : (i : Instruction) → i ≡ instructionAt list (getD table (r .instruction) 0) → (c : Command) → i ≡ Camac c → Alive (planBy list s) c r
+  pub decoded-as : (i : Instruction) → i ≡ instructionAt list (getD table (r .instruction) 0) → (c : Command) → i ≡ Camac c
+      → Alive (planBy list s) c r
   decoded-as i e c q =
       let d = decoded i e in
       let same : Camac (d .0) ≡ Camac c = sym (d .1 .0) ∙ q in
@@ -153,7 +164,8 @@ module _ (list table : List ℕ) (s : Sizes) (room : ℕ) (g : Grounds list tabl
       subst (λ (x : Command). Alive (planBy list s) x r) command (d .1 .1)
 
   -- nothing else stands there
-  pub no-other : {A : Type 0} (i : Instruction) → i ≡ instructionAt list (getD table (r .instruction) 0) → OneOf (1 ∷ 2 ∷ 3 ∷ []) (tagOf the-type i) → A
+  pub no-other : {A : Type 0} (i : Instruction) → i ≡ instructionAt list (getD table (r .instruction) 0)
+      → OneOf (1 ∷ 2 ∷ 3 ∷ []) (tagOf the-type i) → A
   no-other i e k = let d = decoded i e in by (d .0) i (d .1 .0) k
     where
       by : {A : Type 0} (c : Command) (i : Instruction) → i ≡ Camac c → OneOf (1 ∷ 2 ∷ 3 ∷ []) (tagOf the-type i) → A

@@ -1,19 +1,16 @@
 -- The whole run as code makes it: refused as its preparation is, or by 22 where its row is not formed; else its start and its replies.
-use Prim.Native.Nat.{ℕ, _/_, _≤_, _<_}
+use Prim.Native.Nat.{ℕ, _/_}
 use mathlib.Core.Path.{_≡_, refl, sym, ap, _∙_, subst}
 use mathlib.Core.Bool.{true, false}
 use mathlib.Core.List.{List, []}
-use native.Mathlib.Omega.{arith}
 use lib.ListN.{length}
-use Rattle.listfile.specs.Bytes.{Bytes}
 use Rattle.listfile.specs.declared.Refusal.{Refusal}
 use Rattle.listfile.specs.declared.Sizes.{Sizes}
 use Rattle.walk.specs.Admission.{prepare}
-use Rattle.walk.specs.Sums.{restFrom, planBy, preparedBy, PlannedBy, refusalIn}
+use Rattle.walk.specs.Sums.{restFrom, planBy, preparedBy, refusalIn}
 use Rattle.walk.specs.declared.Counts.{Counts}
-use Rattle.walk.specs.declared.Plan.{Plan}
 use Rattle.walk.specs.declared.Preparation.{Preparation}
-use Rattle.walk.specs.declared.Preparation.the-variants.{Refused, Ready}
+use Rattle.walk.specs.declared.Preparation.the-variants.{Refused}
 use Rattle.run.specs.Replies.{repliesIn, allFormed}
 use Rattle.run.specs.Effect.{State, runOn}
 use Rattle.run.specs.Calls.{notRefused, refusal, zeroRecord, refusedRecord, stateOf, begun, RunThrough, runOf, ranOf}
@@ -26,31 +23,24 @@ use Rattle.rows.specs.Row.{rowFrom, stoppedAt, Grounds, Stage}
 use Rattle.rows.proofs.StepsAreTakes.{run-refused, run-unformed, run-takes}
 use Rattle.rows.proofs.WordsAhead.{grounds-sound}
 
--- what a preparation leaves
-pub prepared-ready : (list table : List ℕ) (i o : ℕ) (x : Preparation) (plan : Plan) → prepare list i o ≡ preparedBy list x → PlannedBy list table x
-    → x ≡ Ready plan → Bytes list → length table ≡ 4096 → Prepared list table (plan .sizes) (plan .counts) i o
-prepared-ready list table i o x plan e planned is bytes entries = record {
-  bytes = bytes;
-  entries = entries;
-  planned = subst (PlannedBy list table) is planned;
-  prepared = e ∙ ap (preparedBy list) is;
-}
-
 module _ (list incoming outgoing row : List ℕ) where
   -- what a whole run answers, by what it is
   abbrev Answers : Ran → List ℕ → Type 0
   Answers ran after = (ran ≡ ranOf (runOf list incoming outgoing row)) × (after ≡ runOf list incoming outgoing row .state .incoming)
 
-  answers : (x : RunThrough) (ran : Ran) (after : List ℕ) → runOf list incoming outgoing row ≡ x → ran ≡ ranOf x → after ≡ x .state .incoming → Answers ran after
+  answers : (x : RunThrough) (ran : Ran) (after : List ℕ) → runOf list incoming outgoing row ≡ x → ran ≡ ranOf x
+      → after ≡ x .state .incoming → Answers ran after
   answers x ran after e f g = (f ∙ ap ranOf (sym e), g ∙ ap (λ (y : RunThrough). y .state .incoming) (sym e))
 
   abbrev refusedBy : Refusal → Ran
   refusedBy r = record { refusal = r; taken = 0; run = refusedRecord }
 
-  pub whole-refused : (x : Preparation) (r s : Refusal) (ran : Ran) → prepare list (length incoming) (length outgoing) ≡ preparedBy list x → x ≡ Refused r
+  pub whole-refused : (x : Preparation) (r s : Refusal) (ran : Ran) → prepare list (length incoming) (length outgoing) ≡ preparedBy list x
+      → x ≡ Refused r
       → s ≡ refusalIn x → ran ≡ refusedBy s → Answers ran incoming
   whole-refused x r s ran e is es er =
-      answers _ ran incoming (run-refused list incoming outgoing row r (e ∙ ap (preparedBy list) is)) (er ∙ ap refusedBy (es ∙ ap refusalIn is)) refl
+      answers _ ran incoming (run-refused list incoming outgoing row r (e ∙ ap (preparedBy list) is))
+      (er ∙ ap refusedBy (es ∙ ap refusalIn is)) refl
 
   module _ (table : List ℕ) (s : Sizes) (counts : Counts) (x : Prepared list table s counts (length incoming) (length outgoing)) where
     pub grounds : Grounds list table s (length incoming)

@@ -1,7 +1,7 @@
 -- A record that waits on an admitted list has room for all words left of its instruction, and small numbers: its marks with those words are the
 -- walk's behind the instruction, and those are at most B and O.
-use Prim.Native.Nat.{ℕ, zero, suc, _+_, _-_, _≤_, _<_}
-use mathlib.Core.Path.{_≡_, refl, sym, ap, _∙_, subst}
+use Prim.Native.Nat.{ℕ, zero, suc, _+_, _-_, _≤_}
+use mathlib.Core.Path.{_≡_, sym, ap, _∙_, subst}
 use mathlib.Core.List.{List, [], _∷_, _++_}
 use mathlib.Core.Bool.{false}
 use native.Mathlib.Omega.{arith}
@@ -83,7 +83,9 @@ module _ (list table : List ℕ) (s : Sizes) (room : ℕ) (g : Grounds list tabl
 
       sound-here : SoundCommand c
       sound-here = subst SoundCommand same
-          (well-after (l .pre) (camacVisit (r .instruction) (l .place) (l .command)) (l .post) (subst Well (l .split) (grounds-sound .well)) .0)
+          (well-after (l .pre) (camacVisit (r .instruction) (l .place) (l .command)) (l .post)
+          (subst Well (l .split) (grounds-sound .well)) .0)
 
       words : BelowMarks (movedWords (r .left) c (r .marks)) (lastMarks (planBy list s))
-      words = subst (λ (d : Command). BelowMarks (movedWords (r .left) d (r .marks)) (lastMarks (planBy list s))) same (words-below (planBy list s) r l)
+      words = subst (λ (d : Command). BelowMarks (movedWords (r .left) d (r .marks)) (lastMarks (planBy list s))) same
+          (words-below (planBy list s) r l)

@@ -76,13 +76,15 @@ pub record Alive (p : Plan) (c : Command) (r : Record) : Type 0 where
   pub waits : WaitsAt p r c rest
 
 -- from one place of the row to another, with a record that still waits at the same instruction
-pub record Stays (p : Plan) (c : Command) (row : List ℕ) (r : Record) (from : ℕ) (b : List ℕ) (r′ : Record) (at : ℕ) (b′ : List ℕ) : Type 0 where
+pub record Stays (p : Plan) (c : Command) (row : List ℕ) (r : Record) (from : ℕ) (b : List ℕ) (r′ : Record) (at : ℕ)
+    (b′ : List ℕ) : Type 0 where
   pub alive : Alive p c r′
   pub formed : FormedFrom row at
   pub goes : (outgoing : List ℕ) → rowFrom p row from (stateOf r b outgoing) ≡ rowFrom p row at (stateOf r′ b′ outgoing)
 
 -- from one place of the row to another, along the walk
-pub record Moves (p : Plan) (row : List ℕ) (r : Record) (from : ℕ) (b : List ℕ) (r′ : Record) (at : ℕ) (b′ : List ℕ) : Type 0 where
+pub record Moves (p : Plan) (row : List ℕ) (r : Record) (from : ℕ) (b : List ℕ) (r′ : Record) (at : ℕ)
+    (b′ : List ℕ) : Type 0 where
   pub stage : Stage p r′
   pub formed : FormedFrom row at
   pub goes : (outgoing : List ℕ) → rowFrom p row from (stateOf r b outgoing) ≡ rowFrom p row at (stateOf r′ b′ outgoing)
@@ -154,7 +156,8 @@ pub record Ahead (c : Command) (r : Record) (buffer : List ℕ) : Type 0 where
   pub room : movedWords (r .left) c (r .marks) .incoming ≤ length buffer
 
 -- a stretch of clean answers from a place of the row to another
-pub record Stretch (c : Command) (r : Record) (row : List ℕ) (from : ℕ) (buffer : List ℕ) (r′ : Record) (at : ℕ) (buffer′ : List ℕ) : Type 0 where
+pub record Stretch (c : Command) (r : Record) (row : List ℕ) (from : ℕ) (buffer : List ℕ) (r′ : Record) (at : ℕ)
+    (buffer′ : List ℕ) : Type 0 where
   pub words : ℕ
   pub mode : 0 < words → isNoScan (qmodeOf (c .transfer)) ≡ true
   pub clean : Clean row from words

@@ -1,8 +1,8 @@
 -- `resume` is `resumed`: the record as it is, or `run_on` from the next instruction, which is on the walk.
-use Rattle.walk.specs.Sums.{restFrom}
 use native.Mathlib.Omega.{arith}
-use Rattle.engine.proofs.Onward.{within, through-going, resumed-same, resumed-through, resumed-ended}
 use borrow.Author.Needs.{needs}
+use Rattle.walk.specs.Sums.{restFrom}
+use Rattle.engine.proofs.Onward.{within, through-going, resumed-same, resumed-through, resumed-ended}
 use Rattle.engine.proofs.resume.Statement.{statement}
 use Rattle.engine.proofs.resume.Tie as tie
 

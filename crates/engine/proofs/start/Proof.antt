@@ -1,9 +1,9 @@
 -- `start` is `startOf`: refused as the preparation is, or the run from the first instruction, whose record has ended or fits.
 use mathlib.Core.Path.{refl}
 use native.Mathlib.Omega.{arith}
+use borrow.Author.Needs.{needs}
 use Rattle.engine.proofs.PlanLaws.{going-start}
 use Rattle.engine.proofs.StepLaws.{yields, prepared-ready, start-refused, start-asked, start-yields}
-use borrow.Author.Needs.{needs}
 use Rattle.engine.proofs.start.Statement.{statement}
 use Rattle.engine.proofs.start.Tie as tie
 

@@ -1,7 +1,7 @@
 -- `step` is `stepOf`: refused as the preparation is, or the step of the list prepared.
 use native.Mathlib.Omega.{arith}
-use Rattle.engine.proofs.StepLaws.{yields, yields-by, prepared-ready, step-refused, step-prepared}
 use borrow.Author.Needs.{needs}
+use Rattle.engine.proofs.StepLaws.{yields, yields-by, prepared-ready, step-refused, step-prepared}
 use Rattle.engine.proofs.step.Statement.{statement}
 use Rattle.engine.proofs.step.Tie as tie
 

@@ -1,11 +1,11 @@
 -- `step_planned` is `stepPrepared`: each return is one case of 24, 23, 22 and the reply taken.
-use borrow.Author.Tests.{not-true, not-false}
 use mathlib.Core.Path.{sym, ap, _∙_}
 use native.Mathlib.Omega.{arith}
+use borrow.Author.Tests.{not-true, not-false}
+use borrow.Author.Needs.{needs}
 use Rattle.run.specs.Here.{formedBy}
 use Rattle.engine.proofs.PlanLaws.{planned-counts}
 use Rattle.engine.proofs.StepLaws.{yields, step-24, step-missing, found-small, step-23, step-22, step-ready, step-going, step-asked, step-yields}
-use borrow.Author.Needs.{needs}
 use Rattle.engine.proofs.step_planned.Statement.{statement}
 use Rattle.engine.proofs.step_planned.Tie as tie
 

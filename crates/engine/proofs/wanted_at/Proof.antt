@@ -1,8 +1,8 @@
 -- `wanted_at` is `wantedBy`: the instruction that the table has for the record, where it is a CAMAC one.
 use mathlib.Core.Path.{_∙_}
 use native.Mathlib.Omega.{arith}
-use Rattle.engine.proofs.Onward.{wanted-ended, wanted-camac, wanted-none}
 use borrow.Author.Needs.{needs}
+use Rattle.engine.proofs.Onward.{wanted-ended, wanted-camac, wanted-none}
 use Rattle.engine.proofs.wanted_at.Statement.{statement}
 use Rattle.engine.proofs.wanted_at.Tie as tie
 

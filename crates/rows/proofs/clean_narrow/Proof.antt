@@ -1,7 +1,9 @@
-use native.Mathlib.Omega.{arith}
-use Prim.Native.Nat.{ℕ, _+_, _-_, _*_, _≤_}
+-- `clean_narrow` counts clean answers and stores their words. The loop's invariant: the first k replies are clean, and their words lie in the
+-- buffer.
+use Prim.Native.Nat.{_+_, _-_, _*_, _≤_}
 use mathlib.Core.Path.{_≡_, refl, sym, _∙_}
 use mathlib.Core.Bool.{false}
+use native.Mathlib.Omega.{arith}
 use borrow.Author.Count.{below-more}
 use borrow.Author.Tests.{eqb-true, not-false}
 use lib.ListN.{length, length-set}
@@ -9,95 +11,83 @@ use Rattle.rows.specs.Row.{Clean, cleanStored}
 use Rattle.rows.proofs.CleanStore.{narrow-more}
 use Rattle.rows.proofs.clean_narrow.Statement.{statement}
 use Rattle.rows.proofs.clean_narrow.Tie as tie
-use Rattle.rows.proofs.clean_narrow.Reads as reads
-use Rattle.rows.proofs.clean_narrow.Lts as lts
-use Rattle.rows.proofs.is_clean_at.Reads as is-clean-at-reads
 
 abbrev Inv-loop : tie.InvT-loop
-Inv-loop incoming₀ mark row from most k₀ incoming k = (k ≤ most) × Clean row from k × (incoming ≡ cleanStored false row from mark k incoming₀) × (length incoming ≡ length incoming₀)
+Inv-loop incoming₀ mark row from most k₀ incoming k = (k ≤ most) × Clean row from k
+    × (incoming ≡ cleanStored false row from mark k incoming₀) × (length incoming ≡ length incoming₀)
 
 abbrev μ-loop : tie.MeasureT-loop
 μ-loop incoming₀ mark row from most k₀ incoming k = most - k
 
--- src/lib.rt:64:5
 loop-holds : tie.Need-loop-holds Inv-loop μ-loop
 unfolding cleanStored
 loop-holds c = (omega arith, λ j h. absurd (omega arith), refl, refl)
 
--- src/lib.rt:65:25
 mul-at : tie.Need-mul-at Inv-loop μ-loop
 mul-at c = omega arith
 
--- src/lib.rt:65:18
 add-at : tie.Need-add-at Inv-loop μ-loop
 add-at c = omega arith
 
--- src/lib.rt:66:13
 is-clean-at-requires : tie.Need-is-clean-at-requires Inv-loop μ-loop
 is-clean-at-requires c κs = omega arith
 
--- src/lib.rt:67:13
 same-length : tie.Need-same-length Inv-loop μ-loop
 same-length c = c .before .before .before .loop .inv .3
 
--- src/lib.rt:67:13
 returns : tie.Need-returns Inv-loop μ-loop
 returns c = let i = c .before .before .before .loop .inv in (i .0, (i .1, i .2))
 
--- src/lib.rt:69:25
 mul-to : tie.Need-mul-to Inv-loop μ-loop
 mul-to c = omega arith
 
--- src/lib.rt:69:18
 add-to : tie.Need-add-to Inv-loop μ-loop
 add-to c = omega arith
 
--- src/lib.rt:70:28
 add-incoming : tie.Need-add-incoming Inv-loop μ-loop
 add-incoming c = omega arith
 
--- src/lib.rt:70:24
 shared-slice-read-incoming : tie.Need-shared-slice-read-incoming Inv-loop μ-loop
 shared-slice-read-incoming c = omega arith
 
--- src/lib.rt:70:9
 slice-write-incoming : tie.Need-slice-write-incoming Inv-loop μ-loop
 slice-write-incoming c = omega arith
 
--- src/lib.rt:71:32
 add-incoming-2 : tie.Need-add-incoming-2 Inv-loop μ-loop
 add-incoming-2 c = omega arith
 
--- src/lib.rt:71:28
 shared-slice-read-incoming-2 : tie.Need-shared-slice-read-incoming-2 Inv-loop μ-loop
 shared-slice-read-incoming-2 c = omega arith
 
--- src/lib.rt:71:18
 add-incoming-3 : tie.Need-add-incoming-3 Inv-loop μ-loop
 add-incoming-3 c = omega arith
 
--- src/lib.rt:71:9
 slice-write-incoming-2 : tie.Need-slice-write-incoming-2 Inv-loop μ-loop
 slice-write-incoming-2 c = simp length-set (omega arith)
 
--- src/lib.rt:72:9
 add-k : tie.Need-add-k Inv-loop μ-loop
 add-k c = omega arith
 
--- src/lib.rt:64:5
 loop-less : tie.Need-loop-less Inv-loop μ-loop
 loop-less c = omega arith
 
--- src/lib.rt:64:5
 loop-again : tie.Need-loop-again Inv-loop μ-loop
-loop-again c = let i = c .before .before .before .before .before .loop .inv in let byte = c .shared-slice-known3 .given in let at = c .before .before .before .before .before .before .before .before .args .from + c .before .before .before .before .before .loop .k * 8 in
-    (omega arith, below-more _ _ (i .1) (eqb-true _ 3 (sym (c .before .before .before .is-clean-at .ensures) ∙ not-false _ (c .before .before .if1 .left))), narrow-more (c .before .before .before .before .before .before .before .before .args .row .now) (c .before .before .before .before .before .before .before .before .args .from) (c .before .before .before .before .before .loop .k) (omega (arith, byte (at + 4))) (omega (arith, byte (at + 5))) (omega (arith, byte (at + 6))) (c .before .before .before .before .before .before .before .before .args .mark) _ _ (i .2), simp length-set (i .3))
+loop-again c =
+    let at-if1 = c .before .before in
+    let at-is-clean-at = at-if1 .before in
+    let at-loop = at-is-clean-at .before .before in
+    let start = at-loop .before .before .before in
+    let i = at-loop .loop .inv in let byte = c .shared-slice-known3 .given in let at = start .args .from + at-loop .loop .k * 8 in (
+      omega arith,
+      below-more _ _ (i .1) (eqb-true _ 3 (sym (at-is-clean-at .is-clean-at .ensures) ∙ not-false _ (at-if1 .if1 .left))),
+      narrow-more (start .args .row .now) (start .args .from) (at-loop .loop .k) (omega (arith, byte (at + 4))) (omega (arith, byte (at + 5)))
+          (omega (arith, byte (at + 6))) (start .args .mark) _ _ (i .2),
+      simp length-set (i .3),
+    )
 
--- src/lib.rt:58:1
 same-length-2 : tie.Need-same-length-2 Inv-loop μ-loop
 same-length-2 c = c .before .loop .inv .3
 
--- src/lib.rt:58:1
 returns-2 : tie.Need-returns-2 Inv-loop μ-loop
 returns-2 c = let i = c .before .loop .inv in (i .0, (i .1, i .2))
 

@@ -1,14 +1,12 @@
+-- `clean_silent` counts clean answers. The loop's invariant: the first k replies are clean.
+use Prim.Native.Nat.{_-_, _≤_}
+use mathlib.Core.Path.{sym, _∙_}
 use native.Mathlib.Omega.{arith}
-use Prim.Native.Nat.{ℕ, _+_, _-_, _*_, _≤_}
-use mathlib.Core.Path.{_≡_, sym, _∙_}
 use borrow.Author.Count.{below-more}
 use borrow.Author.Tests.{eqb-true, not-false}
 use Rattle.rows.specs.Row.{Clean}
 use Rattle.rows.proofs.clean_silent.Statement.{statement}
 use Rattle.rows.proofs.clean_silent.Tie as tie
-use Rattle.rows.proofs.clean_silent.Reads as reads
-use Rattle.rows.proofs.clean_silent.Lts as lts
-use Rattle.rows.proofs.is_clean_at.Reads as is-clean-at-reads
 
 abbrev Inv-loop : tie.InvT-loop
 Inv-loop row from most k₀ k = (k ≤ most) × Clean row from k
@@ -16,39 +14,35 @@ Inv-loop row from most k₀ k = (k ≤ most) × Clean row from k
 abbrev μ-loop : tie.MeasureT-loop
 μ-loop row from most k₀ k = most - k
 
--- src/lib.rt:105:5
 loop-holds : tie.Need-loop-holds Inv-loop μ-loop
 loop-holds c = (omega arith, λ j h. absurd (omega arith))
 
--- src/lib.rt:106:25
 mul-at : tie.Need-mul-at Inv-loop μ-loop
 mul-at c = omega arith
 
--- src/lib.rt:106:18
 add-at : tie.Need-add-at Inv-loop μ-loop
 add-at c = omega arith
 
--- src/lib.rt:107:13
 is-clean-at-requires : tie.Need-is-clean-at-requires Inv-loop μ-loop
 is-clean-at-requires c κs = omega arith
 
--- src/lib.rt:108:13
 returns : tie.Need-returns Inv-loop μ-loop
 returns c = c .before .before .before .loop .inv
 
--- src/lib.rt:110:9
 add-k : tie.Need-add-k Inv-loop μ-loop
 add-k c = omega arith
 
--- src/lib.rt:105:5
 loop-less : tie.Need-loop-less Inv-loop μ-loop
 loop-less c = omega arith
 
--- src/lib.rt:105:5
 loop-again : tie.Need-loop-again Inv-loop μ-loop
-loop-again c = (omega arith, below-more _ _ (c .before .before .before .loop .inv .1) (eqb-true _ 3 (sym (c .before .is-clean-at .ensures) ∙ not-false _ (c .if1 .left))))
+loop-again c =
+    let at-loop = c .before .before .before in (
+      omega arith,
+      below-more _ _ (at-loop .loop .inv .1)
+          (eqb-true _ 3 (sym (c .before .is-clean-at .ensures) ∙ not-false _ (c .if1 .left))),
+    )
 
--- src/lib.rt:100:1
 returns-2 : tie.Need-returns-2 Inv-loop μ-loop
 returns-2 c = c .before .loop .inv
 

@@ -1,45 +1,34 @@
-use mathlib.Core.Path.{_≡_, sym, ap, _∙_}
-use Rattle.rows.specs.Row.{isNoScan}
+-- `is_no_scan` is `isNoScan` of the instruction's Q-mode: each arm is a clause of it.
+use mathlib.Core.Path.{sym, ap, _∙_}
 use borrow.Author.Needs.{needs}
+use Rattle.rows.specs.Row.{isNoScan}
 use Rattle.rows.proofs.is_no_scan.Statement.{statement}
 use Rattle.rows.proofs.is_no_scan.Tie as tie
-use Rattle.rows.proofs.is_no_scan.Reads as reads
-use Rattle.rows.proofs.is_no_scan.Lts as lts
-use Rattle.camac.proofs.qmode_of.Reads as qmode-of-reads
 
--- src/lib.rt:169:9
 qmode-of-requires : tie.Need-qmode-of-requires
 qmode-of-requires c κs = search needs
 
--- src/lib.rt:171:24
 enum-told : tie.Need-enum-told
 enum-told c = search needs
 
--- src/lib.rt:172:26
 enum-told-2 : tie.Need-enum-told-2
 enum-told-2 c = search needs
 
--- src/lib.rt:173:26
 enum-told-3 : tie.Need-enum-told-3
 enum-told-3 c = search needs
 
--- src/lib.rt:174:24
 enum-told-4 : tie.Need-enum-told-4
 enum-told-4 c = search needs
 
--- src/lib.rt:165:1
 returns : tie.Need-returns
 returns c = ap isNoScan (sym (c .enum-told .given .1) ∙ c .before .before .qmode-of .ensures)
 
--- src/lib.rt:165:1
 returns-2 : tie.Need-returns-2
 returns-2 c = ap isNoScan (sym (c .enum-told2 .given .1) ∙ c .before .before .qmode-of .ensures)
 
--- src/lib.rt:165:1
 returns-3 : tie.Need-returns-3
 returns-3 c = ap isNoScan (sym (c .enum-told3 .given .1) ∙ c .before .before .qmode-of .ensures)
 
--- src/lib.rt:165:1
 returns-4 : tie.Need-returns-4
 returns-4 c = ap isNoScan (sym (c .enum-told4 .given .1) ∙ c .before .before .qmode-of .ensures)
 

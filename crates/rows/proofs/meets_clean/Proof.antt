@@ -1,30 +1,22 @@
-use mathlib.Core.Path.{_≡_, sym, _∙_}
+-- `meets_clean` says no where the instruction is a scan, so that a yes says that it is none.
 use mathlib.Core.Bool.{false≢true}
 use borrow.Author.Tests.{not-false}
 use borrow.Author.Needs.{needs}
 use Rattle.rows.proofs.meets_clean.Statement.{statement}
 use Rattle.rows.proofs.meets_clean.Tie as tie
-use Rattle.rows.proofs.meets_clean.Reads as reads
-use Rattle.rows.proofs.meets_clean.Lts as lts
-use Rattle.rows.proofs.is_clean_at.Reads as is-clean-at-reads
 
--- src/lib.rt:220:9
 returns : tie.Need-returns
 returns c = λ e. absurd (false≢true e)
 
--- src/lib.rt:222:8
 sub-if2 : tie.Need-sub-if2
 sub-if2 c = search needs
 
--- src/lib.rt:223:9
 returns-2 : tie.Need-returns-2
 returns-2 c = λ e. absurd (false≢true e)
 
--- src/lib.rt:225:5
 is-clean-at-requires : tie.Need-is-clean-at-requires
 is-clean-at-requires c κs = search needs
 
--- src/lib.rt:215:1
 returns-3 : tie.Need-returns-3
 returns-3 c = λ e. not-false _ (c .before .before .if1 .left)
 
