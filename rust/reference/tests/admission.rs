@@ -1,12 +1,9 @@
-//! Admission: cases K1 to K12, the manual's lists, every refusal with its place.
+//! Admission: every refusal with its place and in its order.
 
-mod common;
-
-use common::{double, hex, list, list_with, single, M01, M02, M03, M07, M12, M15, M17};
+use reference::cases::by_hand::{double, hex, list, list_with, single, HALT};
 use reference::{admit, Counts, Refusal};
 
 const ROOM: u64 = 1 << 20;
-const HALT: &str = "2F 00 00 ";
 
 fn admitted(list: &[u8]) -> [u64; 3] {
     let Counts { w, b, o } = admit(list, ROOM, ROOM).expect("admitted");
@@ -28,149 +25,6 @@ fn one_refused(field: &str) -> u8 {
     let (number, place) = refused(&list(&format!("{field} {HALT}")));
     assert_eq!(place, 7);
     number
-}
-
-#[test]
-fn k1_to_k6() {
-    assert_eq!(one(&single(0x0200_0102)), [1, 2, 0]);
-    assert_eq!(one(&double(0x0E40_052A, 0xFFFF_FFFD)), [3, 6, 0]);
-    for (n, w) in [(1, 2), (4, 5), (17, 18), (18, 18)] {
-        let scan = double(0x2DC0_3E38, (2 * n as u32).wrapping_neg());
-        assert_eq!(one(&scan), [w, 4 * n, 0]);
-    }
-    assert_eq!(one_refused(&double(0x2DC0_3E38, 38_u32.wrapping_neg())), 9);
-}
-
-#[test]
-fn k7_to_k12() {
-    assert_eq!(one(&double(0x0C02_0330, 0xFFFF_FFFC)), [6, 8, 0]);
-    assert_eq!(admitted(&list(M12)), [6, 16, 0]);
-    assert_eq!(admitted(&list(M17)), [1, 8, 0]);
-    assert_eq!(admitted(&list(HALT)), [0, 0, 0]);
-    assert_eq!(refused(&list("")), (11, 0));
-    assert_eq!(refused(&[]), (2, 0));
-    assert_eq!(refused(&list("20 02 00 00 00")), (11, 0));
-}
-
-/// Digest 4.1.
-#[test]
-fn the_manuals_worked_list() {
-    assert_eq!(refused(&list(M01)), (8, 18));
-    for text in [M02, M03] {
-        assert_eq!(admitted(&list(text)), [6150, 8192, 0]);
-        assert_eq!(admitted(&list_with(1, text)), [2054, 8192, 0]);
-        assert_eq!(admitted(&list_with(65_535, text)), [134_215_686, 8192, 0]);
-    }
-    let (head, tail) = M03.rsplit_once("00 F8 FF FF").expect("two blocks");
-    let shorter = format!("{head} 00 FC FF FF {tail}");
-    assert_eq!(admitted(&list(&shorter)), [4614, 6144, 0]);
-}
-
-/// Digest 4.2: M07, M08, M09.
-#[test]
-fn the_manuals_timer_list() {
-    assert_eq!(admitted(&list(M07)), [2, 0, 0]);
-    assert_eq!(refused(&list(&M07.replace("2F 00 00", ""))), (11, 0));
-    let jump_first = format!("20 02 00 01 00 {}", M07.replace("20 02 00 00 00", ""));
-    assert_eq!(admitted(&list(&jump_first)), [2, 0, 0]);
-}
-
-/// Digest 4.3, 4.4.
-#[test]
-fn the_manuals_packing_figures() {
-    let eight = 0xFFFF_FFF8;
-    assert_eq!(one(&double(0x0C02_0322, eight)), [8, 16, 0]);
-    assert_eq!(one(&double(0x0C02_0320, eight)), [4, 16, 0]);
-    assert_eq!(one(&double(0x0C10_0322, eight)), [8, 0, 16]);
-    assert_eq!(one(&double(0x0C10_0320, eight)), [4, 0, 16]);
-    assert_eq!(admitted(&list(M15)), [6, 0, 16]);
-    assert_eq!(admit(&list(M15), 0, 15), Err(Refusal::plain(21)));
-    assert!(admit(&list(M15), 0, 16).is_ok());
-    let literal = "21 04 00 5A 5A 00 00";
-    let words = |n: u32| double(0x0C02_0322, n.wrapping_neg());
-    assert_eq!(one(&format!("{} {literal}", words(3))), [3, 12, 0]);
-    assert_eq!(one(&words(3)), [3, 6, 0]);
-    assert_eq!(one(&format!("{} {literal}", words(2))), [2, 8, 0]);
-}
-
-/// Digest 4.5.
-#[test]
-fn transfer_counts() {
-    assert_eq!(one(&double(0x0C02_0322, 0xFFFF_FFFF)), [1, 2, 0]);
-    assert_eq!(one(&double(0x0C02_0320, 0xFFFF_FFFE)), [1, 4, 0]);
-    assert_eq!(one_refused(&double(0x0C02_0320, 0xFFFF_FFFF)), 9);
-    assert_eq!(one_refused(&double(0x0C02_0322, 0)), 9);
-    assert_eq!(one(&double(0x0C02_0322, 0xFFFF_0000)), [65_536, 131_072, 0]);
-    assert_eq!(one(&double(0x0C02_0320, 0xFFFF_0000)), [32_768, 131_072, 0]);
-    assert_eq!(one_refused(&double(0x0C02_0322, 0xFFFE_FFFF)), 9);
-    assert_eq!(one(&double(0x0C02_0322, 0xFFFF_FC00)), [1024, 2048, 0]);
-    assert_eq!(one(&double(0x0C02_0320, 0xFFFF_F800)), [1024, 4096, 0]);
-    assert_eq!(one(&double(0x0C02_0322, 0xFFFF_FC18)), [1000, 2000, 0]);
-    let largest = list(&format!("{} {HALT}", double(0x0C02_0322, 0xFFFF_0000)));
-    assert_eq!(admit(&largest, 65_536, 0), Err(Refusal::plain(20)));
-}
-
-/// Digest 4.7: words of enhanced blocks.
-#[test]
-fn enhanced_words() {
-    for first in [
-        0x3C0C_0158,
-        0x3C2C_0158,
-        0x3C4C_0158,
-        0x3C6C_0158,
-        0x3C8C_0158,
-    ] {
-        assert_eq!(one_refused(&double(first, 0xFFFF_FFFE)), 7);
-    }
-    for first in [
-        0x0C02_0340,
-        0x0C02_0348,
-        0x0C02_0350,
-        0x0C02_0358,
-        0x0C10_0350,
-        0x0C18_0340,
-    ] {
-        assert_eq!(one_refused(&double(first, 0xFFFF_FFFE)), 8);
-    }
-    assert_eq!(one_refused(&double(0x3C0C_0158, 0xFFFF_FC00)), 7);
-}
-
-/// Digest 4.8.
-#[test]
-fn special_words_ranges_and_functions() {
-    for first in [0x8000, 0x8014, 0x8015, 0x8010] {
-        assert_eq!(one_refused(&single(first)), 6);
-    }
-    assert_eq!(one_refused(&single(0x0200_0002)), 7);
-    assert_eq!(one_refused(&single(0x0200_3F02)), 7);
-    assert_eq!(one(&single(0x0200_3E02)), [1, 2, 0]);
-    for function in [0, 7, 8, 15, 16, 23, 24, 31] {
-        let first = 0x0C00_0300 | function << 16;
-        let block = double(first | 1 << 5, 0xFFFF_FFFE);
-        let inline = double(first | 3 << 5, 7);
-        match function {
-            0 | 7 => {
-                assert_eq!(one(&single(first)), [1, 4, 0]);
-                assert_eq!(one(&block), [1, 4, 0]);
-                assert_eq!(one_refused(&inline), 8);
-            }
-            16 | 23 => {
-                assert_eq!(one(&single(first)), [1, 0, 4]);
-                assert_eq!(one(&block), [1, 0, 4]);
-                assert_eq!(one(&inline), [1, 0, 0]);
-            }
-            _ => {
-                assert_eq!(one(&single(first)), [1, 0, 0]);
-                assert_eq!(one_refused(&block), 8);
-                assert_eq!(one_refused(&inline), 8);
-            }
-        }
-    }
-    assert_eq!(one_refused(&double(0x0C10_0360, 0x0100_0000)), 9);
-    assert_eq!(one_refused(&double(0x0C10_0362, 0x0001_0000)), 9);
-    assert_eq!(one(&double(0x0C10_0362, 0x0000_FFFF)), [1, 0, 0]);
-    assert_eq!(one_refused(&single(0x0C10_0360)), 8);
-    assert_eq!(one_refused(&double(0x0C02_0302, 0)), 8);
 }
 
 #[test]

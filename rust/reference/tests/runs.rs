@@ -1,32 +1,13 @@
-//! Runs: document 01's worked case and the manual's examples, executed.
+//! Runs: what camrun prints, operations wanted, steps, refusals, notes.
 
-mod common;
-
-use common::*;
 use reference::camrun::render;
+use reference::cases::by_hand::*;
 use reference::record::last_moved;
 use reference::{run_row, start, step, Note, Operation, Record, Refusal};
-
-const HALT: &str = "2F 00 00 ";
-
-/// The last line that camrun prints for fields after the first field and a row.
-fn ending(fields: &str, row: &[u8]) -> String {
-    let text = render(&list(&format!("{fields} {HALT}")), row, &[]);
-    text.lines().last().expect("a line").to_string()
-}
 
 /// All lines that camrun prints.
 fn lines(list: &[u8], row: &[u8], out: &[u8]) -> Vec<String> {
     render(list, row, out).lines().map(String::from).collect()
-}
-
-/// N and A of each `op` line.
-fn positions(lines: &[String]) -> Vec<String> {
-    let op = |line: &String| {
-        let numbers: Vec<_> = line.strip_prefix("op ")?.split(' ').collect();
-        Some(format!("{}/{}", numbers[2], numbers[3]))
-    };
-    lines.iter().filter_map(op).collect()
 }
 
 #[test]
@@ -88,24 +69,12 @@ fn camrun_cuts_its_files() {
     assert_eq!(refusal, Refusal::at(3, 7));
 }
 
-/// M02 to M06.
+/// M03's operations: F 2 in all reads.
 #[test]
 fn the_manuals_worked_list() {
-    let row = ok(0x12_3456).repeat(2_054);
-    for text in [M02, M03] {
-        let printed = lines(&list(text), &row, &[]);
-        assert_eq!(printed[0], "admitted 6150 8192 0");
-        assert_eq!(printed[2_055], "end 0 00000080 2054 8192");
-    }
-    let printed = lines(&list(M03), &row, &[]);
+    let printed = lines(&list(M03), &ok(0).repeat(2_054), &[]);
     let reads = printed.iter().filter(|line| line.ends_with(" 3 6 0 2"));
     assert_eq!(reads.count(), 2_048);
-    let slow_word = answers(&[X, X, Q | X]);
-    let half = [ok(0).repeat(2), slow_word.repeat(1_024), ok(0).to_vec()].concat();
-    let printed = lines(&list(M03), &half.repeat(2), &[]);
-    assert_eq!(printed[6_151], "end 0 00010080 6150 8192");
-    let spent = answers(&[Q | X, Q | X, X, X, X]);
-    assert_eq!(lines(&list(M03), &spent, &[])[6], "end B B2010080 5 0");
 }
 
 /// Runs a list by start and steps and returns the data of each operation wanted.
@@ -135,21 +104,12 @@ fn the_manuals_timer_list() {
     assert_eq!(wanted_data(&list(M07), &[], ok(0)), [0x12_3456, 0xAB_CDEF]);
 }
 
-/// M12 to M15, M17.
+/// M15: pads and top bytes are ignored.
 #[test]
-fn the_manuals_packing_figures() {
-    let data = [0x1101, 0x1202, 0x1303, 0xA1_1101, 0x1404, 0x1505];
-    let row: Vec<u8> = data.iter().flat_map(|&data| ok(data)).collect();
-    let mut incoming = [0xEE; 17];
-    run_row(&list(M12), &mut incoming, &[], &row);
-    let expected = hex("01 11 02 12 03 13 00 00 01 11 A1 00 04 14 05 15 EE");
-    assert_eq!(incoming, expected[..]);
+fn the_manuals_mixed_writes() {
     let outgoing = hex("01 11 02 12 03 13 99 99 01 11 A1 77 04 14 05 15");
-    let expected: Vec<u64> = data.map(u64::from).to_vec();
+    let expected = [0x1101, 0x1202, 0x1303, 0xA1_1101, 0x1404, 0x1505];
     assert_eq!(wanted_data(&list(M15), &outgoing, ok(0)), expected);
-    let mut incoming = [0xEE; 8];
-    run_row(&list(M17), &mut incoming, &[], &ok(0x1234));
-    assert_eq!(incoming, hex("34 12 00 00 5A 5A 00 00")[..]);
 }
 
 /// A pad is written with its word and not before: a waiting record's mark is before it.
@@ -169,111 +129,6 @@ fn pads_wait_for_their_word() {
     };
     assert_eq!(next.record.note, note);
     assert_eq!(incoming[6..12], [0, 0, 4, 0, 0, 0]);
-}
-
-/// Digest 4.9, M50 to M57.
-#[test]
-fn scans() {
-    let scan = |n: u32| double(0x2DC0_3E38, (2 * n).wrapping_neg());
-    let (ok, done) = (Q | X, Q | X);
-    let fields = format!("{} {HALT}", scan(4));
-    let printed = lines(&list(&fields), &answers(&[ok; 4]), &[]);
-    assert_eq!(printed[0], "admitted 5 16 0");
-    assert_eq!(positions(&printed), ["22/14", "22/15", "23/0", "23/1"]);
-    assert_eq!(printed[5], "end 0 00000080 4 16");
-    let printed = lines(&list(&fields), &answers(&[X, ok, ok, ok, ok]), &[]);
-    assert_eq!(
-        positions(&printed),
-        ["22/14", "23/0", "23/1", "23/2", "23/3"]
-    );
-    assert_eq!(printed[6], "end 0 00010080 5 16");
-    let four = |flags: &[u8]| ending(&scan(4), &answers(flags));
-    assert_eq!(four(&[X, X]), "end 9 90410080 2 0");
-    assert_eq!(four(&[Q, ok, ok, ok, ok]), "end 0 00020080 5 16");
-    assert_eq!(four(&[X, X | TPE]), "end A A0550080 2 0");
-    assert_eq!(four(&[0, 0]), "end 9 90430080 2 0");
-    let eighteen = |flags: &[u8]| ending(&scan(18), &answers(flags));
-    assert_eq!(eighteen(&[done; 18]), "end 0 00000080 18 72");
-    let mut second_fails = [done; 18];
-    second_fails[1] = X;
-    assert_eq!(eighteen(&second_fails), "end 9 90410080 18 68");
-    // Another cause at the last position: the word isn't moved, bit 22 stays.
-    second_fails[17] = done | LPE;
-    assert_eq!(eighteen(&second_fails), "end A A0650080 18 64");
-    // Word n at 23/15 with a parity error: nothing was left.
-    let mut last_fails = [done; 18];
-    last_fails[17] = done | TPE;
-    assert_eq!(eighteen(&last_fails), "end A A0140080 18 68");
-}
-
-/// Digest 4.10, M58, M59.
-#[test]
-fn repeats() {
-    let field = double(0x0C02_0330, 0xFFFF_FFFC);
-    let ok = Q | X;
-    let run = |flags: &[u8]| ending(&field, &answers(flags));
-    assert_eq!(run(&[X, X, ok, X, X, ok]), "end 0 00010080 6 8");
-    assert_eq!(run(&[X, X, ok, X, X, X]), "end B B2010080 6 4");
-    assert_eq!(run(&[X, X, ok, X, X]), "waiting 5 4");
-    assert_eq!(run(&[X, X, X | TPE | LPE]), "end B B2350080 3 0");
-}
-
-/// Digest 4.10, M60 to M64.
-#[test]
-fn kinds_and_flags() {
-    let saved = single(0x0C02_0303);
-    assert_eq!(ending(&saved, &kind(1)), "end B B2000080 1 0");
-    assert_eq!(ending(&saved, &kind(2)), "end C C0080080 1 0");
-    assert_eq!(ending(&saved, &kind(3)), "end D D1000080 1 0");
-    let plain = |flags: u8| ending(&single(0x0C02_0302), &answers(&[flags]));
-    assert_eq!(plain(0x07), "end 0 00840080 1 2");
-    assert_eq!(plain(0x0B), "end 0 04000080 1 2");
-    assert_eq!(plain(0x04), "end 8 80870080 1 0");
-    let ignore = single(0x0C02_030B);
-    assert_eq!(ending(&ignore, &answers(&[0x3C])), "end 0 04B70080 1 2");
-}
-
-/// Digest section 2: endings with nothing else gathered.
-#[test]
-fn endings_of_a_single_stop() {
-    let plain = |flags: u8| ending(&single(0x0C02_0302), &answers(&[flags]));
-    assert_eq!(plain(X), "end 7 70010080 1 0");
-    assert_eq!(plain(Q), "end 8 80020080 1 0");
-    assert_eq!(plain(0), "end 8 80030080 1 0");
-    assert_eq!(plain(Q | X | TPE), "end A A0140080 1 0");
-    assert_eq!(plain(Q | X | LPE), "end A A0240080 1 0");
-}
-
-/// M70: all 64 combinations of mode, AD, TPE, X and Q, judged by digest section 5.
-#[test]
-fn single_reply_combinations() {
-    for bits in 0..64_u32 {
-        let bit = |number: u32| bits >> number & 1 == 1;
-        let (q, x, tpe, ad, mode) = (bit(0), bit(1), bit(2), bit(3), bits >> 4);
-        let flags = u8::from(q) * Q + u8::from(x) * X + u8::from(tpe) * TPE;
-        let word = 0x0C02_0302 | mode << 3 | u32::from(ad);
-        let printed = ending(&single(word), &answers(&[flags]));
-        let status = (u32::from(!q) << 16) + (u32::from(!x) << 17) + u32::from(tpe) * 0x0014_0000;
-        let code = if tpe && !ad {
-            Some(0xA)
-        } else if mode != 3 && !x && !ad {
-            Some(8)
-        } else if mode == 0 && !q {
-            Some(7)
-        } else {
-            None
-        };
-        let again = (mode == 2 && !q) || (mode == 3 && !(q && x));
-        let expected = match code {
-            Some(code) => format!("end {code:X} {:08X} 1 0", status | code << 28 | 0x80),
-            None if again => String::from("waiting 1 0"),
-            None => format!("end 0 {:08X} 1 2", status | 0x80),
-        };
-        assert_eq!(
-            printed, expected,
-            "mode {mode} ad {ad} tpe {tpe} x {x} q {q}"
-        );
-    }
 }
 
 /// A record of a run in the middle of M58's block, to be damaged.

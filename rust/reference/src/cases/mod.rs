@@ -1,9 +1,11 @@
 //! Cases for comparison: lists, buffers and rows of replies, made from a seed and a
 //! number. The same seed and number give the same case.
 
+pub mod by_hand;
 pub mod coverage;
 pub mod damage;
 pub mod lists;
+pub mod paper;
 pub mod records;
 pub mod rng;
 pub mod rows;

@@ -1,7 +1,5 @@
 //! Lists and replies written by hand.
 
-#![allow(dead_code)]
-
 /// Bytes from hexadecimal text.
 pub fn hex(text: &str) -> Vec<u8> {
     text.split_whitespace()
@@ -20,6 +18,14 @@ pub fn list_with(r: u16, text: &str) -> Vec<u8> {
     bytes.extend(r.to_le_bytes());
     bytes.extend(hex(text));
     bytes
+}
+
+/// The text of a halt.
+pub const HALT: &str = "2F 00 00 ";
+
+/// The first field with R = 3, the field of `text` and a halt.
+pub fn one(text: &str) -> Vec<u8> {
+    list(&format!("{text} {HALT}"))
 }
 
 /// A CAMAC field of one longword.

@@ -1,0 +1,30 @@
+//! Writes libFuzzer's first inputs to the folder that it is given.
+
+use fuzz::{seed, short_seed};
+use reference::cases::{case, paper};
+use std::path::PathBuf;
+use std::{env, fs};
+
+const RANDOM_CASES: u64 = 2_000;
+/// Longer inputs are left to the tests.
+const MOST_BYTES: usize = 4_096;
+
+fn main() {
+    let folder = PathBuf::from(env::args().nth(1).expect("a folder"));
+    fs::create_dir_all(&folder).expect("a folder that can be made");
+    let known = paper::document_01().into_iter().chain(paper::manual());
+    let known = known.map(|known| (known.list, known.row));
+    let random = (0..RANDOM_CASES).map(|number| case(1, number));
+    let random = random.map(|case| (case.list, case.row));
+    for (number, (list, row)) in known.chain(random).enumerate() {
+        let mut inputs = vec![("raw", seed(&list, &row))];
+        if reference::reply::read_row(&row).is_some() {
+            inputs.push(("short", short_seed(&list, &row)));
+        }
+        for (manner, input) in inputs {
+            if input.len() <= MOST_BYTES {
+                fs::write(folder.join(format!("{number}-{manner}")), input).expect("a file");
+            }
+        }
+    }
+}

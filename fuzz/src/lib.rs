@@ -1,0 +1,98 @@
+//! libFuzzer's target: both calls of the C interface beside those of the separate build.
+//!
+//! An input is the list's length (two bytes, little-endian), a byte that says how long the
+//! buffers are, the list, and the row: as it stands, or with one byte for each reply, which
+//! keeps most rows well formed.
+
+#[path = "../../rust/camlist/tests/common/mod.rs"]
+mod common;
+
+use common::{compare_admission, compare_run};
+use reference::cases::by_hand::{answer, kind, ok};
+use std::slice;
+
+/// The bit of the third byte that says that the row stands as it is.
+const RAW_ROW: u8 = 0x80;
+
+/// Buffers of more bytes than these aren't made.
+const MOST_BUFFER: u64 = 1 << 18;
+
+/// Called by libFuzzer for each input.
+///
+/// # Safety
+///
+/// `data` has `size` bytes.
+#[no_mangle]
+pub unsafe extern "C" fn LLVMFuzzerTestOneInput(data: *const u8, size: usize) -> i32 {
+    let input = if size == 0 {
+        &[]
+    } else {
+        slice::from_raw_parts(data, size)
+    };
+    if let [low, high, manner, rest @ ..] = input {
+        let length = usize::from(u16::from_le_bytes([*low, *high]));
+        let (list, row) = rest.split_at(length.min(rest.len()));
+        compare(list, *manner, row);
+    }
+    0
+}
+
+fn compare(list: &[u8], manner: u8, row: &[u8]) {
+    let [_, _, _, b, o] = camlist::admit(list, u64::MAX, u64::MAX);
+    let incoming_len = buffer_length(b, manner & 7);
+    let outgoing_len = buffer_length(o, manner >> 3 & 7);
+    let what = format_args!("list {list:02X?}, row {row:02X?}");
+    compare_admission(list, u64::MAX, u64::MAX, what);
+    compare_admission(list, incoming_len, outgoing_len, what);
+    if incoming_len.max(outgoing_len) > MOST_BUFFER {
+        return;
+    }
+    let incoming = vec![0xEE; incoming_len as usize];
+    let outgoing: Vec<u8> = (0..outgoing_len).map(|at| at as u8).collect();
+    let row = if manner & RAW_ROW == 0 {
+        row.iter()
+            .enumerate()
+            .flat_map(|(at, &byte)| reply(byte, at))
+            .collect()
+    } else {
+        row.to_vec()
+    };
+    compare_run(list, &incoming, &outgoing, &row, what);
+}
+
+/// One byte short, exact, or a little longer.
+fn buffer_length(needed: u64, manner: u8) -> u64 {
+    match manner {
+        0 => needed.saturating_sub(1),
+        1..=4 => needed,
+        _ => needed + u64::from(manner),
+    }
+}
+
+/// The reply that a byte stands for: any answer, any other kind, or a clean answer.
+fn reply(byte: u8, at: usize) -> [u8; 8] {
+    let data = (at as u32 + 1).wrapping_mul(0x9E_3779);
+    match byte {
+        0..=63 => answer(byte, data),
+        64..=67 => kind(byte - 63),
+        _ => ok(data),
+    }
+}
+
+/// An input for a list and a row as it stands, with buffers that fit.
+pub fn seed(list: &[u8], row: &[u8]) -> Vec<u8> {
+    let [low, high] = (list.len() as u16).to_le_bytes();
+    [&[low, high, RAW_ROW | 1 | 1 << 3], list, row].concat()
+}
+
+/// The same with one byte for each reply of the row, which is well formed.
+pub fn short_seed(list: &[u8], row: &[u8]) -> Vec<u8> {
+    let byte = |reply: &[u8]| match reply[0] {
+        0 => reply[1],
+        kind => 63 + kind,
+    };
+    let bytes: Vec<u8> = row.chunks(8).map(byte).collect();
+    let mut input = seed(list, &bytes);
+    input[2] &= !RAW_ROW;
+    input
+}

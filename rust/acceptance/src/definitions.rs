@@ -1,0 +1,241 @@
+//! Edits of the definitions that the theorem is about, tried where there is no code.
+//!
+//! The definitions-only repository has of each crate that the theorem's crate reaches the
+//! definitions, the types and the law files that the theorem cites. No function is in it,
+//! so that a wrong definition is refused by the theorem or by a law that it cites.
+
+use std::collections::BTreeSet;
+use std::path::{Path, PathBuf};
+
+use crate::edit::{self, Edit};
+use crate::files::{self, Temporary};
+use crate::repository::{self, Listed};
+use crate::types;
+use crate::verdict::{self, Report, Verdict};
+
+/// The crate of the theorem, the file of its proofs that has it, and its name.
+pub const CRATE: &str = "bound";
+pub const MODULE: &str = "Bound";
+pub const THEOREM: &str = "worst-count";
+
+/// A law file: `crates/CRATE/proofs/MODULE.antt`.
+type Law = (String, String);
+
+fn law_path(root: &Path, law: &Law) -> PathBuf {
+    let proofs = root.join("crates").join(&law.0).join("proofs");
+    proofs.join(format!("{}.antt", law.1))
+}
+
+/// The law file that a line cites: `use Rattle.CRATE.proofs.MODULE..` from another crate,
+/// `use Rattle.CRATE.proofs.MODULE..` from its own.
+fn cited(line: &str) -> Option<Law> {
+    let name = line.strip_prefix("use Rattle·")?.split([' ', '{']).next()?;
+    let (library, path) = name.split_once('.')?;
+    let module = path.strip_prefix("proofs.")?.trim_end_matches('.');
+    let owner = library.trim_end_matches("·proofs");
+    Some((owner.to_string(), module.to_string()))
+}
+
+/// The law files that the theorem's file cites, whatever lies between, and itself.
+fn laws(root: &Path) -> Result<BTreeSet<Law>, String> {
+    let mut found = BTreeSet::new();
+    let mut open = vec![(CRATE.to_string(), MODULE.to_string())];
+    while let Some(law) = open.pop() {
+        if found.contains(&law) {
+            continue;
+        }
+        let text = files::read(&law_path(root, &law))?;
+        open.extend(text.lines().filter_map(cited));
+        found.insert(law);
+    }
+    Ok(found)
+}
+
+/// The lines of a `proofs/Lib.antt` that declare these modules.
+fn declarations(lib: &str, modules: &[&str]) -> String {
+    let is_kept = |line: &&str| {
+        let module = line.split_once("mod ").map_or("", |(_, m)| m.trim());
+        modules.contains(&module)
+    };
+    let kept: Vec<&str> = lib.lines().filter(is_kept).collect();
+    kept.join("\n") + "\n"
+}
+
+fn build_laws(root: &Path, to: &Path, name: &str, laws: &BTreeSet<Law>) -> Result<(), String> {
+    let own: Vec<&Law> = laws.iter().filter(|law| law.0 == name).collect();
+    if own.is_empty() {
+        return Ok(());
+    }
+    for law in &own {
+        let text = files::read(&law_path(root, law))?;
+        files::write(&law_path(to, law), &text)?;
+    }
+    let modules: Vec<&str> = own.iter().map(|law| law.1.as_str()).collect();
+    let lib = (name.to_string(), "Lib".to_string());
+    let text = files::read(&law_path(root, &lib))?;
+    files::write(&law_path(to, &lib), &declarations(&text, &modules))
+}
+
+fn build_crate(root: &Path, to: &Path, name: &str, laws: &BTreeSet<Law>) -> Result<(), String> {
+    let (from_crate, to_crate) = (root.join("crates").join(name), to.join("crates").join(name));
+    if from_crate.join("specs").is_dir() {
+        files::copy_folder(&from_crate.join("specs"), &to_crate.join("specs"))?;
+    }
+    for source in files::with_ending(&from_crate.join("src"), "rt")? {
+        let target = to_crate
+            .join("src")
+            .join(source.file_name().unwrap_or_default());
+        files::write(&target, &types::of(&files::read(&source)?))?;
+    }
+    build_laws(root, to, name, laws)
+}
+
+fn line_of(c: &Listed) -> String {
+    format!("{}: {}\n", c.name, c.deps.join(" "))
+}
+
+/// Writes the definitions-only repository of the one at `root` to a folder.
+pub fn build(root: &Path, to: &Path) -> Result<(), String> {
+    let crates = repository::reached(&repository::listed(root)?, CRATE);
+    let laws = laws(root)?;
+    for c in &crates {
+        build_crate(root, to, &c.name, &laws)?;
+    }
+    let lines: String = crates.iter().map(line_of).collect();
+    files::write(&to.join("crates.txt"), &lines)
+}
+
+/// The unedited definitions-only repository, proved.
+pub struct Base {
+    folder: Temporary,
+}
+
+/// Whether the theorem is proved in a folder, and the log.
+fn check(folder: &Path) -> Result<(bool, String), String> {
+    let output = repository::rt(folder, &["check", CRATE])?;
+    let log = String::from_utf8_lossy(&output.stdout).into_owned();
+    match output.status.code() {
+        Some(0) => Ok((true, log)),
+        Some(1) => Ok((false, log)),
+        _ => Err(format!("rt could not tell\n{log}")),
+    }
+}
+
+impl Base {
+    /// Builds and proves it. Everything that is proved here is not proved again for an
+    /// edit that doesn't touch it.
+    pub fn prove(root: &Path) -> Result<Base, String> {
+        let folder = Temporary::new()?;
+        build(root, folder.path())?;
+        match check(folder.path())? {
+            (true, _) => Ok(Base { folder }),
+            (false, log) => Err(format!("without an edit the theorem is not proved\n{log}")),
+        }
+    }
+
+    /// Tries an edit on a copy.
+    pub fn try_edit(&self, edit: &Edit) -> Result<Verdict, String> {
+        let copy = Temporary::new()?;
+        files::copy_folder(self.folder.path(), copy.path())?;
+        edit.apply(copy.path())?;
+        let (is_proved, log) = check(copy.path())?;
+        if is_proved {
+            return Ok(Verdict::NotRefused(
+                "the theorem is still proved".to_string(),
+            ));
+        }
+        Ok(judge(&verdict::reports(&log, copy.path())))
+    }
+}
+
+/// Whether the theorem falls with what was refused: itself, or in a crate below its own,
+/// whose law files are those that it cites.
+fn falls(reports: &[Report]) -> bool {
+    let own = format!("crates/{CRATE}/");
+    let is_lower = |r: &Report| !r.file.starts_with(&own);
+    reports.iter().any(|r| is_lower(r) || r.law == THEOREM)
+}
+
+/// The first error must be a fact, and the theorem must fall with it.
+fn judge(reports: &[Report]) -> Verdict {
+    match (verdict::judge(reports), verdict::causes(reports).first()) {
+        (Verdict::Fact(fact), Some(&first)) if *first != fact => Verdict::Misfit(first.clone()),
+        (Verdict::Fact(fact), _) if !falls(reports) => {
+            Verdict::NotRefused(format!("{THEOREM} does not rest on {}", fact.law))
+        }
+        (judged, _) => judged,
+    }
+}
+
+/// The edits of `acceptance/definitions`, each of definitions alone.
+pub fn edits(root: &Path) -> Result<Vec<Edit>, String> {
+    let mut found = Vec::new();
+    for path in files::with_ending(&root.join("acceptance/definitions"), "edit")? {
+        let edit = edit::read(&path)?;
+        let is_definition = |file: &str| file.starts_with("crates/") && file.contains("/specs/");
+        if !edit.pairs.iter().all(|pair| is_definition(&pair.file)) {
+            return Err(format!("{}: a file is not below specs/", edit.label));
+        }
+        found.push(edit);
+    }
+    Ok(found)
+}
+
+#[cfg(test)]
+mod tests {
+    use super::*;
+
+    fn law(owner: &str, module: &str) -> Option<Law> {
+        Some((owner.to_string(), module.to_string()))
+    }
+
+    #[test]
+    fn cited_law_files() {
+        assert_eq!(
+            cited("use Rattle.walk.proofs.Visits.{Walk, walked}"),
+            law("walk", "Visits")
+        );
+        assert_eq!(
+            cited("use Rattle.bound.proofs.Live.{Live}"),
+            law("bound", "Live")
+        );
+        assert_eq!(
+            cited("use Rattle.run.proofs.Fits as fits"),
+            law("run", "Fits")
+        );
+        assert_eq!(cited("use Rattle.run.specs.Fit.{fits}"), None);
+        assert_eq!(cited("use Rattle.bound.specs.Slowest.{misses}"), None);
+        assert_eq!(cited("use mathlib.Core.List.{List}"), None);
+    }
+
+    #[test]
+    fn declared_modules() {
+        let lib = "pub mod Laws\npub mod Fits\nmod Own\n";
+        assert_eq!(
+            declarations(lib, &["Own", "Laws"]),
+            "pub mod Laws\nmod Own\n"
+        );
+    }
+
+    #[test]
+    fn a_law_that_the_theorem_does_not_rest_on() {
+        let report = |file: &str, law: &str, message: &str| Report {
+            file: file.to_string(),
+            line: 1,
+            law: law.to_string(),
+            message: message.to_string(),
+            detail: String::new(),
+            automatic: false,
+        };
+        let own = report("crates/bound/proofs/A.antt", "a", "`omega`: no");
+        let theorem = report(
+            "crates/bound/proofs/Bound.antt",
+            THEOREM,
+            "`a` was not admitted",
+        );
+        let lower = report("crates/walk/proofs/B.antt", "b", "`omega`: no");
+        assert!(!judge(std::slice::from_ref(&own)).is_fact());
+        assert!(judge(&[own, theorem]).is_fact());
+        assert!(judge(&[lower]).is_fact());
+    }
+}

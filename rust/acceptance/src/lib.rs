@@ -1,0 +1,19 @@
+//! The acceptance tooling of the crate list engine.
+//!
+//! A wrong engine is an edit that the prover must refuse, and for a fact: not because a
+//! proof file no longer fits the text. `crates/NAME/must-fail` has the edits of a crate's
+//! code and of its own definitions. `acceptance/definitions` has those of the definitions
+//! that the theorem of crate `bound` is about; they are tried where there is no code, so
+//! that only the theorem, and the laws that it cites, can refuse them.
+
+#![forbid(unsafe_code)]
+
+pub mod definitions;
+pub mod edit;
+pub mod files;
+pub mod must_fail;
+pub mod needs;
+pub mod reading;
+pub mod repository;
+pub mod types;
+pub mod verdict;

@@ -1,0 +1,86 @@
+//! Times the proved engine beside the separate build's plain fast loop: same process, same
+//! inputs, in turns. `cargo run --release -p bench`.
+
+use bench::{admissions, workloads, Workload};
+use std::hint::black_box;
+use std::time::Instant;
+
+/// Turns that each engine gets; the median counts.
+const TURNS: usize = 31;
+
+/// Seconds that each engine took, and their ratio: medians over the turns.
+struct Times {
+    proved: f64,
+    plain: f64,
+    ratio: f64,
+}
+
+fn seconds<Answer>(call: impl FnOnce() -> Answer) -> f64 {
+    let start = Instant::now();
+    black_box(call());
+    start.elapsed().as_secs_f64()
+}
+
+fn median(mut values: Vec<f64>) -> f64 {
+    values.sort_by(f64::total_cmp);
+    values[values.len() / 2]
+}
+
+fn compare<A, B>(mut proved: impl FnMut() -> A, mut plain: impl FnMut() -> B) -> Times {
+    let turn = |_| (seconds(&mut proved), seconds(&mut plain));
+    let turns: Vec<_> = (0..TURNS).map(turn).collect();
+    Times {
+        proved: median(turns.iter().map(|turn| turn.0).collect()),
+        plain: median(turns.iter().map(|turn| turn.1).collect()),
+        ratio: median(turns.iter().map(|turn| turn.0 / turn.1).collect()),
+    }
+}
+
+fn compare_runs(workload: &Workload, row: &[u8]) -> Times {
+    let Workload { list, outgoing, .. } = workload;
+    let mut proved_incoming = vec![1; workload.incoming_len];
+    let mut plain_incoming = vec![1; workload.incoming_len];
+    let times = compare(
+        || camlist::run(list, &mut proved_incoming, outgoing, row),
+        || reference::fast::run_row(list, &mut plain_incoming, outgoing, row),
+    );
+    assert!(proved_incoming == plain_incoming, "the engines differ");
+    times
+}
+
+fn main() {
+    println!("Whole runs, admission and the row's check included. Nanoseconds a reply, medians of {TURNS} turns.");
+    println!(
+        "Incoming buffers are written once before the first turn and not cleared between turns."
+    );
+    println!(
+        "{:<22} {:<7} {:>8} {:>8} {:>8} {:>7}",
+        "list", "answers", "replies", "proved", "plain", "ratio"
+    );
+    for workload in workloads() {
+        for (answers, clean) in [("clean", true), ("other", false)] {
+            let row = workload.row(clean);
+            let times = compare_runs(&workload, &row);
+            let replies = row.len() / 8;
+            let each = |seconds: f64| seconds * 1e9 / replies as f64;
+            let (proved, plain) = (each(times.proved), each(times.plain));
+            println!(
+                "{:<22} {answers:<7} {replies:>8} {proved:>8.2} {plain:>8.2} {:>7.2}",
+                workload.name, times.ratio
+            );
+        }
+    }
+    println!("\nAdmission. Microseconds a call.");
+    println!(
+        "{:<22} {:>8} {:>8} {:>7}",
+        "list", "proved", "plain", "ratio"
+    );
+    for (name, list) in admissions() {
+        let times = compare(
+            || camlist::admit(&list, u64::MAX, u64::MAX),
+            || reference::admit(&list, u64::MAX, u64::MAX),
+        );
+        let (proved, plain) = (times.proved * 1e6, times.plain * 1e6);
+        println!("{name:<22} {proved:>8.1} {plain:>8.1} {:>7.2}", times.ratio);
+    }
+}

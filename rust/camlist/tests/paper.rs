@@ -1,0 +1,18 @@
+//! Document 01's cases and the manual's examples, through the C interface.
+
+use camlist::{admit, run};
+use reference::cases::paper;
+
+#[test]
+fn document_01() {
+    for known in paper::document_01() {
+        known.check(admit, run);
+    }
+}
+
+#[test]
+fn the_manual() {
+    for known in paper::manual() {
+        known.check(admit, run);
+    }
+}
