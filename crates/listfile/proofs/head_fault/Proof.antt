@@ -1,6 +1,7 @@
 -- `head_fault` is `headFault`: at each return the tests passed are those of the law that is cited.
 use borrow.Author.Needs.{needs}
 use mathlib.Core.Path.{sym, _∙_}
+use native.Mathlib.Omega.{arith}
 use Rattle.listfile.proofs.FieldLaws.{head-1, head-1-body, head-5, head-3, head-4, head-0}
 use Rattle.listfile.proofs.head_fault.Statement.{statement}
 use Rattle.listfile.proofs.head_fault.Tie as tie
@@ -35,13 +36,13 @@ is-unknown-requires c κs = search needs
 returns-3 : tie.Need-returns-3
 returns-3 c =
     head-5 _ _ _ (c .before .before .before .before .before .if1 .left) _
-    (c .before .before .before .before .short-at .ensures .0) (c .before .before .before .if2 .left) (c .if3 .taken)
+    (c .before .before .before .before .short-at .ensures .0) (c .before .before .before .if2 .left) (omega arith)
 
 returns-4 : tie.Need-returns-4
 returns-4 c =
     head-3 _ _ _ (c .before .before .before .before .before .before .if1 .left) _
     (c .before .before .before .before .before .short-at .ensures .0) (c .before .before .before .before .if2 .left)
-    (c .before .if3 .left) _ (c .before .before .before .tag-at .ensures)
+    (omega arith) _ (c .before .before .before .tag-at .ensures)
     (sym (c .before .before .is-unknown .ensures) ∙ c .if4 .taken)
 
 is-wrong-length-requires : tie.Need-is-wrong-length-requires

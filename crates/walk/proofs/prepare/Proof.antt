@@ -73,7 +73,7 @@ returns-3 c =
     (c .before .before .before .before .before .before .before .before .before .before .before .before .before .check-list .ensures .0)
     _ (c .before .before .before .before .before .before .before .before .before .checked .given .1) _
     (c .before .before .before .before .before .before .walk .ensures) _
-    (c .before .before .before .before .walked .given .1) (c .before .if1 .taken))
+    (c .before .before .before .before .walked .given .1) (omega arith))
 
 refused-requires-3 : tie.Need-refused-requires-3
 refused-requires-3 c κs = search needs
