@@ -23,7 +23,7 @@ use Rattle.walk.specs.Sums.{restFrom}
 use Rattle.walk.proofs.Visits.{none-some, same-some}
 use Rattle.walk.proofs.MarksGrow.{over-grows}
 use Rattle.walk.proofs.Rest.{OnWalk, headed, rest-next}
-use Rattle.walk.proofs.TableWalk.{field-past, field-here}
+use Rattle.walk.proofs.TableFields.{field-past, field-here}
 use Rattle.run.specs.Effect.{State, runOn}
 use Rattle.run.specs.Calls.{noOperation, operationOf, stateOf}
 use Rattle.run.specs.Here.{resumed, RoomFor, advanceRun, advanceBuffer}

@@ -26,9 +26,8 @@ use Rattle.walk.specs.declared.Turn.{Turn}
 use Rattle.walk.specs.declared.Turn.the-variants.{To, Stopped}
 use Rattle.walk.proofs.Visits.{Well, well-after}
 use Rattle.walk.proofs.MarksGrow.{BelowMarks, below, over-grows}
-use Rattle.walk.proofs.Rest.{OnWalk, on-walk, walk-enough, rest-next}
+use Rattle.walk.proofs.Rest.{OnWalk, on-walk, rest-next, rest-ends}
 use Rattle.walk.proofs.SumLaws.{marksIn, countsBy, turn-went, turn-halts}
-use Rattle.walk.proofs.TableWalk.{rest-ends}
 use Rattle.run.specs.Fit.{fitsAt, fitsFrom, fits}
 use Rattle.run.specs.declared.Record.{Record}
 use Rattle.engine.specs.Place.{noSums, sumsIn, foundAt, findIn, fitsBy}
@@ -199,7 +198,7 @@ module _ (list table : List ℕ) (n j at : ℕ) (i : Instruction) (right : Table
   unfolding findIn
   find-missing e =
       let halt : i ≡ Halt = turn-halts limit i j s e in
-      let last = rest-ends list n j _ (walk-enough (f .on .walk) n (f .on .few)) (here .known) (ap (λ (x : Instruction). nextOf x j) halt) in
+      let last = rest-ends list n j (f .on) (here .known) (ap (λ (x : Instruction). nextOf x j) halt) in
       by-number (eqb j k) (rw (last, halt) at (f .ahead))
     where
       by-number : (b : Bool) → (if b then Missing else Missing) ≡ findIn limit k (restFrom list n 0) noSums

@@ -1,5 +1,5 @@
 pub mod SumLaws
-pub mod TableWalk
+pub mod TableFields
 pub mod WalkLaws
 pub mod PrepareLaws
 pub mod Visits

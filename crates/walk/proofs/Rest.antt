@@ -1,6 +1,6 @@
 -- The rest of a walk from one of its instructions on. A walk is a derivation with no count of visits, so that the rest of one is found
 -- again with any count that is large enough.
-use Prim.Native.Nat.{ℕ, zero, suc, _+_, _≤_, _<_}
+use Prim.Native.Nat.{ℕ, zero, suc, _≤_}
 use mathlib.Core.Path.{_≡_, refl, sym, ap, _∙_, subst}
 use mathlib.Core.List.{List, [], _∷_}
 use mathlib.Core.Option.{Option, none, some}
@@ -14,10 +14,10 @@ use Rattle.listfile.specs.Fields.{Field}
 use Rattle.listfile.specs.Table.{firstFields}
 use Rattle.walk.specs.Walk.{Visit, visit, fieldAt, nextOf, before, walkFrom, onFrom}
 use Rattle.walk.specs.Sums.{visitsIn, restFrom}
-use Rattle.walk.proofs.Visits.{Walk, ends, goes, walked, walk-past, walk-ends, walk-goes, walk-from, none-some, same-some, same-next}
+use Rattle.walk.proofs.Visits.{Walk, ends, goes, walked, walk-ends, walk-goes, walk-from, none-some, same-some, same-next}
 
 -- a count as large as the walk finds it
-pub walk-enough : {fs : List Field} {k : ℕ} {vs : List Visit} → Walk fs k vs → (n : ℕ) → length vs ≤ n → walkFrom n fs k ≡ some vs
+walk-enough : {fs : List Field} {k : ℕ} {vs : List Visit} → Walk fs k vs → (n : ℕ) → length vs ≤ n → walkFrom n fs k ≡ some vs
 walk-enough (ends p q) zero h = absurd (omega arith)
 walk-enough {fs} {k} (ends p q) (suc n) h = walk-ends n fs k p q
 walk-enough (goes p q w) zero h = absurd (omega arith)
@@ -42,7 +42,7 @@ pub record OnWalk (list : List ℕ) (n k : ℕ) : Type 0 where
   pub walk : Walk (firstFields list n) k (restFrom list n k)
   pub few : length (restFrom list n k) ≤ n
 
-pub rest-is : (list : List ℕ) (n k : ℕ) {vs : List Visit} → walkFrom n (firstFields list n) k ≡ some vs → restFrom list n k ≡ vs
+rest-is : (list : List ℕ) (n k : ℕ) {vs : List Visit} → walkFrom n (firstFields list n) k ≡ some vs → restFrom list n k ≡ vs
 unfolding restFrom
 rest-is list n k e = ap visitsIn e
 
@@ -76,6 +76,15 @@ rest-next list n k j {f} o p q = go (o .walk) (o .few)
         let i = same-some (same-next k p′ p q′) q in
         let x = on-by list n j (subst (λ (i : ℕ). Walk (firstFields list n) i us) i w) (omega arith) in
         (x .0, ap (λ (g : Field). visit k g ∷ us) (same-some p′ p) ∙ ap (λ (us : List Visit). visit k f ∷ us) (sym (x .1)))
+
+-- the walk at its halt
+pub rest-ends : (list : List ℕ) (n k : ℕ) {f : Field} → OnWalk list n k → fieldAt (firstFields list n) k ≡ some f → nextOf (f .instruction) k ≡ none
+    → restFrom list n k ≡ visit k f ∷ []
+rest-ends list n k {f} o p q = go (o .walk)
+  where
+    go : {vs : List Visit} → Walk (firstFields list n) k vs → vs ≡ visit k f ∷ []
+    go (ends p′ q′) = ap (λ (g : Field). visit k g ∷ []) (same-some p′ p)
+    go (goes {j = j} p′ q′ w) = none-some j (sym (same-next k p p′ q) ∙ q′)
 
 -- the walk from one of its visits on
 on-short : (j : ℕ) (ws : List Visit) → length (onFrom j ws) ≤ length ws

@@ -19,7 +19,7 @@ use Rattle.walk.specs.declared.Turn.the-variants.{To, Stopped}
 use Rattle.walk.specs.declared.Walked.{Walked}
 use Rattle.walk.specs.declared.Walked.the-variants.{Lost, Halted}
 use Rattle.walk.proofs.SumLaws.{marksIn, countsBy, turn-went, turn-halts}
-use Rattle.walk.proofs.TableWalk.{walk-past, walk-ends, walk-goes}
+use Rattle.walk.proofs.Visits.{walk-past, walk-ends, walk-goes}
 
 abbrev pub noCounts : Counts
 noCounts = record { worst = 0; incoming = 0; outgoing = 0 }
@@ -50,7 +50,7 @@ module _ (limit : ℕ) (fs : List Field) where
     ahead-halt zero u e = absurd (omega arith)
     ahead-halt (suc most) u e =
         let q : f .instruction ≡ Halt = turn-halts limit (f .instruction) k s e in
-        rw (walk-ends most fs k f h (ap (λ (i : Instruction). nextOf i k) q), q)
+        rw (walk-ends most fs k h (ap (λ (i : Instruction). nextOf i k) q), q)
         (ap (λ (w : ℕ). Halted (countsBy w (marksIn s))) (omega arith))
 
     ahead-on : (most j : ℕ) (s′ : Counts) → turnOf limit (f .instruction) k s ≡ To j s′
@@ -58,7 +58,7 @@ module _ (limit : ℕ) (fs : List Field) where
     unfolding worstOver marksOver
     ahead-on most j s′ e =
         let w = turn-went limit (f .instruction) k s j s′ e in
-        rw (walk-goes most fs k j f h (w .next)) (go (w .sums) (walkFrom most fs j))
+        rw (walk-goes most fs k h (w .next)) (go (w .sums) (walkFrom most fs j))
       where
         go : s′ ≡ countsBy (s .worst + worstOf limit (f .instruction)) (marksAfter (f .instruction) (marksIn s))
             → (x : Option (List Visit)) → ahead limit (before (visit k f) x) s ≡ ahead limit x s′

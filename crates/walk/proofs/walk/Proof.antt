@@ -7,7 +7,7 @@ use native.Mathlib.Omega.{arith}
 use Rattle.listfile.specs.Table.{firstFields}
 use Rattle.walk.specs.Walk.{walkFrom}
 use Rattle.walk.proofs.SumLaws.{turn-grows, words-few}
-use Rattle.walk.proofs.TableWalk.{field-past, field-here}
+use Rattle.walk.proofs.TableFields.{field-past, field-here}
 use Rattle.walk.proofs.WalkLaws.{noCounts, ahead, ahead-start, ahead-none, ahead-past, ahead-halt, ahead-turn, walk-lost, walk-halted}
 use Rattle.walk.proofs.walk.Statement.{statement}
 use Rattle.walk.proofs.walk.Tie as tie
