@@ -1,10 +1,10 @@
 -- CAMAC words: what the two longwords of a CAMAC instruction say, and refusals 6 to 9 (document 01, "CAMAC words" and
 -- "Who can cause which refusal"; the driver manual's "Command Memory Instruction Formats").
 use Prim.Native.Nat.{ℕ, zero, suc, _-_, _/_, _%_}
-use mathlib.Core.Bool.{Bool, true, false, _&&_, _||_, not}
-use mathlib.Core.List.{List, [], _∷_}
+use mathlib.Core.Bool.{Bool, _&&_, _||_, not}
+use mathlib.Core.List.{[], _∷_}
 use lib.Dec.{leb, ltb, eqb}
-use Rattle.camac.specs.Checks.{if_then_else_, Check, _gives_, firstOf, bit}
+use Rattle.camac.specs.Checks.{if_then_else_, _gives_, firstOf, bit}
 use Rattle.camac.specs.Scan.{positions}
 use Rattle.camac.specs.declared.QMode.{QMode}
 use Rattle.camac.specs.declared.QMode.the-variants.{Stop, Ignore, Repeat, Scan}

@@ -1,6 +1,6 @@
 // CAMAC words: the decode of an instruction's longwords, scan positions, the names of the error codes.
 ghost use mathlib.Core.Path.{_≡_};
-ghost use Prim.Native.Nat.{ℕ, _+_, _-_, _*_, _/_, _%_, _≤_, _<_};
+ghost use Prim.Native.Nat.{_+_, _-_, _*_, _/_, _%_, _<_};
 ghost use Rattle.camac.specs.Scan.{stations, positions, afterOther, afterDone, afterAnswer};
 ghost use Rattle.camac.specs.Words.{qmodeNumbered, addressIn, isControl, isWrite, halfwords, blockWords, transferIn, commandIn, qmodeOf, addressOf, wordsOf, directionBy, directionOf, positionOf, zeroBitSet, badAddress, badMode, badCount, aboveWord, badSecond, aboveP, camacFault, decodeOf};
 ghost use Rattle.camac.specs.Names.{nameOf};

@@ -2,4 +2,3 @@ pub mod Onward
 pub mod PlanLaws
 pub mod Place
 pub mod StepLaws
-pub mod InPlace

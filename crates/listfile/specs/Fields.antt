@@ -6,9 +6,8 @@ use mathlib.Core.List.{List, [], _∷_}
 use mathlib.Core.Option.{Option, none, some}
 use lib.Dec.{leb, ltb, eqb}
 use lib.ListN.{length}
-use Rattle.camac.specs.Checks.{if_then_else_, Check, _gives_, firstOf}
+use Rattle.camac.specs.Checks.{if_then_else_, _gives_, firstOf}
 use Rattle.camac.specs.Words.{decodeOf}
-use Rattle.camac.specs.declared.Command.{Command}
 use Rattle.camac.specs.declared.Decoded.{Decoded}
 use Rattle.camac.specs.declared.Decoded.the-variants.{Carried}
 use Rattle.camac.specs.declared.Decoded.the-variants as camac

@@ -3,7 +3,7 @@ use Prim.Native.Nat.{ℕ, zero, suc, _+_, _<_, _≤_}
 use mathlib.Core.Path.{_≡_}
 use mathlib.Core.List.{List, [], _∷_, _++_}
 use mathlib.Core.Option.{Option, none, some}
-use lib.ListN.{length, getD}
+use lib.ListN.{getD}
 use Rattle.camac.specs.Words.{commandIn}
 use Rattle.listfile.specs.Bytes.{shortAt, longAt}
 use Rattle.listfile.specs.Fields.{nextField, tagAt, firstAt, secondAt, Field, Fields, faulty, fields, Listed, refused, program}

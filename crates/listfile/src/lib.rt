@@ -2,12 +2,12 @@
 use camac::Command;
 use camac::Decoded;
 ghost use mathlib.Core.Path.{_≡_};
-ghost use Prim.Native.Nat.{ℕ, _+_, _-_, _*_, _/_, _%_, _≤_, _<_};
+ghost use Prim.Native.Nat.{_+_, _*_, _≤_, _<_};
 ghost use lib.ListN.{length};
 ghost use lib.Dec.{leb};
-ghost use Rattle.listfile.specs.Bytes.{byteAt, shortAt, longAt};
+ghost use Rattle.listfile.specs.Bytes.{shortAt, longAt};
 ghost use Rattle.listfile.specs.Fields.{tagOf, tagAt, bodyLength, nextField, firstAt, secondAt, isUnknown, wrongLength, headFault, numberIn, carriedBy, bodyOf, fieldOf, numberOf, firstFault, fieldsFrom, badTarget, firstBadJump, programOf};
-ghost use Rattle.listfile.specs.Table.{instructionBy, instructionAt, firstFields, TableRight, fieldsBy, TableBy, refusalIn, badJumpBy, listedBy, TableChecked, refusalOf};
+ghost use Rattle.listfile.specs.Table.{instructionAt, firstFields, TableRight, fieldsBy, TableBy, refusalIn, badJumpBy, listedBy, TableChecked, refusalOf};
 ghost use Rattle.camac.specs.Words.{decodeOf};
 
 // A refusal's number and place; number 0: not refused.

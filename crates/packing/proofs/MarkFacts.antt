@@ -5,8 +5,6 @@ use mathlib.Core.Path.{_≡_, refl, _∙_}
 use mathlib.Core.Bool.{Bool, true, false}
 use mathlib.Core.List.{List, [], _∷_, _++_}
 use native.Mathlib.Omega.{arith}
-use native.Mathlib.Nat.{le-refl, le-trans}
-use native.Mathlib.Decide.{le-ind}
 use borrow.Author.Tests.{ne-eqb, eqb-true, eqb-false}
 use lib.Dec.{eqb}
 use lib.ListN.{length, getD, replicate, length-append, length-replicate}
@@ -51,14 +49,6 @@ pub words-closed : (wide : Bool) (n m : ℕ) → markAfterWords wide (suc n) m �
 unfolding markAfterWords markAfter alignedMark
 words-closed wide zero m = omega arith
 words-closed wide (suc n) m = rw (words-closed wide n m) (word-more wide n m)
-
-pub words-grow : (wide : Bool) (k l m : ℕ) → k ≤ l → markAfterWords wide k m ≤ markAfterWords wide l m
-unfolding markAfterWords
-words-grow wide k l m h =
-    le-ind (λ (j : ℕ). markAfterWords wide k m ≤ markAfterWords wide j m)
-    (le-refl _)
-    (λ j g ih. le-trans ih (mark-grows wide (markAfterWords wide j m)))
-    l h
 
 sets-beyond : (l : List ℕ) (i : ℕ) (vs : List ℕ) (j : ℕ) → i + length vs ≤ j → getD (sets l i vs) j 0 ≡ getD l j 0
 sets-beyond l i [] j h = refl

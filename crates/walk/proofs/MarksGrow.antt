@@ -1,5 +1,5 @@
 -- Along a walk neither mark falls, and both stay even: that holds of each word that moves a mark, and everything here is made of those.
-use Prim.Native.Nat.{ℕ, zero, suc, _+_, _%_, _≤_, zero-le}
+use Prim.Native.Nat.{ℕ, zero, suc, _%_, _≤_, zero-le}
 use mathlib.Core.Path.{_≡_, refl}
 use mathlib.Core.Bool.{Bool, true}
 use mathlib.Core.List.{List, [], _∷_, _++_}

@@ -1,8 +1,8 @@
 -- The walk as code makes it, over the table of places with the sums so far. Nothing here is a rule of document 01.
 use Prim.Native.Nat.{ℕ, _+_, _≤_, _<_}
 use mathlib.Core.Path.{_≡_}
-use mathlib.Core.Bool.{Bool, true, false}
-use mathlib.Core.List.{List, [], _∷_}
+use mathlib.Core.Bool.{Bool, true}
+use mathlib.Core.List.{List, []}
 use mathlib.Core.Option.{Option, none, some}
 use Rattle.camac.specs.Words.{qmodeOf, wordsOf, directionOf, positionOf}
 use Rattle.camac.specs.declared.Command.{Command}
@@ -14,7 +14,7 @@ use Rattle.listfile.specs.declared.Instruction.{Instruction}
 use Rattle.listfile.specs.declared.Instruction.the-variants.{Camac, Jump, Literal, Halt}
 use Rattle.listfile.specs.declared.Refusal.{Refusal}
 use Rattle.listfile.specs.declared.Sizes.{Sizes}
-use Rattle.walk.specs.Walk.{Visit, walkFrom, walkOf}
+use Rattle.walk.specs.Walk.{Visit, walkFrom}
 use Rattle.walk.specs.Worst.{worstWords}
 use Rattle.walk.specs.Admission.{Plan, Prepared, unfit, ready, countsOf}
 use Rattle.walk.specs.declared.Counts.{Counts}

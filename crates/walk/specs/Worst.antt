@@ -1,5 +1,5 @@
 -- The worst count W (document 01, "Worst count").
-use Prim.Native.Nat.{ℕ, zero, suc, _+_, _-_, _*_, min}
+use Prim.Native.Nat.{ℕ, _+_, _-_, _*_, min}
 use mathlib.Core.List.{List, [], _∷_}
 use Rattle.camac.specs.Scan.{stations, positions}
 use Rattle.camac.specs.Words.{qmodeOf, wordsOf, positionOf}
