@@ -99,13 +99,15 @@ pub fn of(text: &str) -> String {
 mod tests {
     use super::*;
 
-    const SOURCE: &str = "\
+    const HEADS: &str = "\
 // The head.
 ghost use a.B.{c};
 use camac::Command;
 use camac::{Decoded, less};
 mod parts;
+";
 
+    const TYPES: &str = "\
 // A refusal.
 #[repr(C)]
 pub struct Refusal {
@@ -118,7 +120,9 @@ enum Read {
 }
 
 pub struct Pair(u8, u8);
+";
 
+    const REST: &str = "\
 const NAMES: [u8; 2] = [
     1, 2,
 ];
@@ -139,28 +143,16 @@ pub fn refused(
 }
 ";
 
-    const TYPES: &str = "\
+    const HEADS_ALONE: &str = "\
 // The types alone.
 use camac::Command;
 use camac::Decoded;
 mod parts;
-
-// A refusal.
-#[repr(C)]
-pub struct Refusal {
-    pub number: u8,
-}
-
-enum Read {
-    Got(Command),
-    Not(Decoded),
-}
-
-pub struct Pair(u8, u8);
 ";
 
     #[test]
     fn types_alone() {
-        assert_eq!(of(SOURCE), TYPES);
+        let source = [HEADS, TYPES, REST].join("\n");
+        assert_eq!(of(&source), [HEADS_ALONE, TYPES].join("\n"));
     }
 }

@@ -91,24 +91,28 @@ fn place(text: &str, folder: &Path) -> Option<(String, usize)> {
 }
 
 /// A message's law, `` `LAW`: .. ``, and the rest.
-fn law(message: &str) -> (String, String) {
+fn law(message: &str) -> (&str, &str) {
     let parts = message.strip_prefix('`').and_then(|m| m.split_once("`: "));
-    let (law, rest) = parts.unwrap_or(("", message));
-    (law.to_string(), rest.to_string())
+    parts.unwrap_or(("", message))
 }
 
-fn error_in(line: &str, folder: &Path) -> Option<Report> {
-    let (at, message) = line.split_once(": error: ")?;
+/// A report at `PATH:LINE:COLUMN`, with no lines under it yet.
+fn report_at(at: &str, folder: &Path, law: &str, message: String) -> Option<Report> {
     let (file, line) = place(at, folder)?;
-    let (law, message) = law(message);
     Some(Report {
         file,
         line,
-        law,
+        law: law.to_string(),
         message,
         detail: String::new(),
         automatic: false,
     })
+}
+
+fn error_in(line: &str, folder: &Path) -> Option<Report> {
+    let (at, message) = line.split_once(": error: ")?;
+    let (law, message) = law(message);
+    report_at(at, folder, law, message.to_string())
 }
 
 /// `note: PLACE: it is not proved that .. (`NEED`)`
@@ -116,17 +120,13 @@ fn unproved_in(line: &str, folder: &Path) -> Option<Report> {
     let (at, message) = line
         .strip_prefix("note: ")?
         .split_once(": it is not proved that ")?;
-    let (file, line) = place(at, folder)?;
     let law = message.rsplit_once("(`").map_or("", |(_, need)| need);
-    let law = law.trim_end_matches("`)").to_string();
+    let law = law.trim_end_matches("`)");
     let message = format!("it is not proved that {message}");
+    let report = report_at(at, folder, law, message)?;
     Some(Report {
-        file,
-        line,
-        law,
-        message,
-        detail: String::new(),
         automatic: true,
+        ..report
     })
 }
 
@@ -203,28 +203,24 @@ mod tests {
         judge(&reports(log, Path::new("/x")))
     }
 
-    fn law_of(verdict: Verdict) -> (bool, String) {
-        match verdict {
-            Verdict::Fact(r) => (true, format!("{}:{} {}", r.file, r.line, r.law)),
-            Verdict::Misfit(r) => (false, format!("{}:{} {}", r.file, r.line, r.law)),
-            Verdict::NotRefused(why) => (false, why),
+    /// The place and the law of the fact that refuses.
+    fn fact(log: &str) -> Option<String> {
+        match judged(log) {
+            Verdict::Fact(r) => Some(format!("{}:{} {}", r.file, r.line, r.law)),
+            _ => None,
         }
     }
 
     #[test]
     fn a_law_refuses() {
         let log = "library a: ok\n/x/proofs/f/Proof.antt:11:13: error: `returns`: `search`: no proof\n  more\n";
-        let expected = "proofs/f/Proof.antt:11 returns".to_string();
-        assert_eq!(law_of(judged(log)), (true, expected));
+        assert_eq!(fact(log).as_deref(), Some("proofs/f/Proof.antt:11 returns"));
     }
 
     #[test]
     fn a_proof_made_by_the_prover_refuses() {
         let log = "note: /x/src/lib.rt:5:1: it is not proved that the sum holds (`returns`)\n";
-        assert_eq!(
-            law_of(judged(log)),
-            (true, "src/lib.rt:5 returns".to_string())
-        );
+        assert_eq!(fact(log).as_deref(), Some("src/lib.rt:5 returns"));
     }
 
     #[test]
@@ -235,8 +231,8 @@ mod tests {
         assert!(!judged(more).is_fact());
         let other = format!("{gone}/x/proofs/g/Proof.antt:3:1: error: `returns`: `omega`: no\n");
         assert_eq!(
-            law_of(judged(&other)),
-            (true, "proofs/g/Proof.antt:3 returns".to_string())
+            fact(&other).as_deref(),
+            Some("proofs/g/Proof.antt:3 returns")
         );
     }
 
