@@ -1,4 +1,5 @@
--- Entry k of a right table and the instruction read there are field k of the fields passed; from the number of instructions on there is none.
+-- Field k by a table of places: entry k of a right table is the place of field k of the fields passed, and the instruction read there is its
+-- instruction. At their number and past it there is no field.
 use Prim.Native.Nat.{ℕ, zero, suc, _≤_, _<_}
 use mathlib.Core.Path.{_≡_, refl, _∙_}
 use mathlib.Core.List.{List, [], _∷_}

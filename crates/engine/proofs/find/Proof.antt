@@ -26,12 +26,12 @@ mul-instruction-at c = omega (arith, within _ _ _ (c .loop .inv .on), c .before 
 
 shared-slice-read-instruction-at : tie.Need-shared-slice-read-instruction-at Inv-loop μ-loop
 shared-slice-read-instruction-at c =
+    let at-start = c .before .before .before .before in
     omega (
       arith,
       within _ _ _ (c .before .loop .inv .on),
-      c .before .before .before .before .pre .1 .few,
-      c .before .before .before
-          .before .pre .0,
+      at-start .pre .1 .few,
+      at-start .pre .0,
     )
 
 instruction-at-requires : tie.Need-instruction-at-requires Inv-loop μ-loop
@@ -62,9 +62,9 @@ enum-told c = search needs
 
 returns : tie.Need-returns Inv-loop μ-loop
 returns c =
-    find-missing _ _ _ _ _ _ (c .before .before .before .before .before .before .before .before .pre .1 .right) refl (c .before .before
-    .before .instruction-at .ensures) _ _ _ _ (c .before .before .before .before .before .loop .inv) (sym (c .before .before .turn-of
-    .ensures) ∙ c .enum-told .given .1)
+    let at-loop = c .before .before .before .before .before in
+    find-missing _ _ _ _ _ _ (at-loop .before .before .before .pre .1 .right) refl (c .before .before .before .instruction-at .ensures) _ _ _ _
+    (at-loop .loop .inv) (sym (c .before .before .turn-of .ensures) ∙ c .enum-told .given .1)
 
 found-at-requires : tie.Need-found-at-requires Inv-loop μ-loop
 found-at-requires c κs = search needs

@@ -14,11 +14,11 @@ enum-known-taken-2 c = search needs
 
 add-run-on : tie.Need-add-run-on
 add-run-on c =
+    let at-start = c .before .before .before .before .before .before .before in
     omega (
       arith,
-      within _ _ _ (through-going _ _ _ _ _ (c .before .before .taken2 .given .1) (c .before .before .before .before .before
-          .before .before .pre .1 .1 .1) .on),
-      c .before .before .before .before .before .before .before .pre .1 .0,
+      within _ _ _ (through-going _ _ _ _ _ (c .before .before .taken2 .given .1) (at-start .pre .1 .1 .1) .on),
+      at-start .pre .1 .0,
     )
 
 run-on-requires : tie.Need-run-on-requires
@@ -31,8 +31,8 @@ enum-known-taken-3 c = search needs
 
 returns : tie.Need-returns
 returns c =
-    λ out. resumed-same (restFrom (c .before .before .before .before .before .before .args .list .now) (c .before .before .before .before
-    .before .before .args .count)) _ _ _ out (c .before .taken .given .1)
+    let at-start = c .before .before .before .before .before .before in
+    λ out. resumed-same (restFrom (at-start .args .list .now) (at-start .args .count)) _ _ _ out (c .before .taken .given .1)
 
 same-length : tie.Need-same-length
 same-length c = search needs
@@ -46,8 +46,8 @@ returns-2 c =
 
 returns-3 : tie.Need-returns-3
 returns-3 c =
-    λ out. resumed-ended (restFrom (c .before .before .before .before .before .before .args .list .now) (c .before .before .before .before
-    .before .before .args .count)) _ _ _ out (c .before .taken3 .given .1)
+    let at-start = c .before .before .before .before .before .before in
+    λ out. resumed-ended (restFrom (at-start .args .list .now) (at-start .args .count)) _ _ _ out (c .before .taken3 .given .1)
 
 pub resume-spec : {M : Type 1} → statement M
 resume-spec =

@@ -37,10 +37,10 @@ instruction-at-requires c κs = search needs
 
 advance-by-requires : tie.Need-advance-by-requires Inv-loop μ-loop
 advance-by-requires c κs =
+    let at-start = c .before .before .before .before .before .before .before in
     let g = c .before .before .before .loop .inv .1 .0 in (
-      omega (arith, within _ _ _ (g .on), c .before .before .before .before .before .before .before .pre .1 .0),
-      room-here _ _ _ _ _ _ (c
-          .before .before .before .before .before .before .before .pre .1 .1 .0) refl (c .before .instruction-at .ensures) _ _ g,
+      omega (arith, within _ _ _ (g .on), at-start .pre .1 .0),
+      room-here _ _ _ _ _ _ (at-start .pre .1 .1 .0) refl (c .before .instruction-at .ensures) _ _ g,
     )
 
 enum-known-next : tie.Need-enum-known-next Inv-loop μ-loop
@@ -68,8 +68,9 @@ enum-known-next-2 c = search needs
 
 same-length : tie.Need-same-length Inv-loop μ-loop
 same-length c =
-    c .before .before .before .before .before .advance-by .kept .1 .1 .1 .0 ∙ c .before .before .before .before .before .before .before
-    .before .before .loop .inv .1 .1
+    let at-advance-by = c .before .before .before .before .before in
+    let at-loop = at-advance-by .before .before .before .before in
+    at-advance-by .advance-by .kept .1 .1 .1 .0 ∙ at-loop .loop .inv .1 .1
 
 returns : tie.Need-returns Inv-loop μ-loop
 returns c =

@@ -30,8 +30,9 @@ refuse-requires c κs = search needs
 
 returns : tie.Need-returns
 returns c =
-    yields _ _ _ _ _ _ _ (c .refuse .ensures) (start-refused _ _ _ _ (c .before .before .before .before .before .before .prepare .ensures
-    .0) _ _ (c .before .before .before .enum-told .given .1) (c .before .before .refusal-in .ensures) _ (c .before .zero-record .ensures))
+    let at-prepare = c .before .before .before .before .before .before in
+    yields _ _ _ _ _ _ _ (c .refuse .ensures) (start-refused _ _ _ _ (at-prepare .prepare .ensures .0) _ _
+    (c .before .before .before .enum-told .given .1) (c .before .before .refusal-in .ensures) _ (c .before .zero-record .ensures))
 
 zero-record-requires-2 : tie.Need-zero-record-requires-2
 zero-record-requires-2 c κs = search needs

@@ -14,15 +14,15 @@ refuse-by-requires c κs = search needs
 
 returns : tie.Need-returns
 returns c =
-    yields _ _ _ _ _ _ _ (c .refuse-by .ensures) (step-24 _ _ _ _ _ _ (c .before .before .before .before .before .before .before .pre) _ _
-    (c .before .if1 .taken))
+    let at-start = c .before .before .before .before .before .before .before in
+    yields _ _ _ _ _ _ _ (c .refuse-by .ensures) (step-24 _ _ _ _ _ _ (at-start .pre) _ _ (c .before .if1 .taken))
 
 find-requires : tie.Need-find-requires
-find-requires c κs = (
-  c .before .before .before .before .before .before .before .pre .entries,
-  planned-counts _ _ _ _ _ _ (c .before .before .before .before
-      .before .before .before .pre),
-)
+find-requires c κs =
+    let at-start = c .before .before .before .before .before .before .before in (
+      at-start .pre .entries,
+      planned-counts _ _ _ _ _ _ (at-start .pre),
+    )
 
 enum-known-found : tie.Need-enum-known-found
 enum-known-found c = search needs
@@ -35,9 +35,10 @@ refuse-by-requires-2 c κs = search needs
 
 returns-2 : tie.Need-returns-2
 returns-2 c =
-    yields _ _ _ _ _ _ _ (c .refuse-by2 .ensures) (step-missing _ _ _ _ _ _ (c .before .before .before .before .before .before .before
-    .before .before .before .before .pre) _ _ (c .before .before .before .before .before .if1 .left) _ (c .before .before .before .find
-    .ensures) (c .before .enum-told .given .1))
+    let at-if1 = c .before .before .before .before .before in
+    let at-start = at-if1 .before .before .before .before .before .before in
+    yields _ _ _ _ _ _ _ (c .refuse-by2 .ensures) (step-missing _ _ _ _ _ _ (at-start .pre) _ _ (at-if1 .if1 .left) _
+    (c .before .before .before .find .ensures) (c .before .enum-told .given .1))
 
 fits-here-requires : tie.Need-fits-here-requires
 fits-here-requires c κs =

@@ -29,18 +29,21 @@ no-operation-requires-2 c κs = search needs
 
 returns-2 : tie.Need-returns-2
 returns-2 c =
-    c .no-operation2 .ensures ∙ wanted-none _ _ _ _ (c .before .before .before .before .if1 .left) _ (c .before .before .instruction-at
-    .ensures) (c .before .match .keys2)
+    let at-instruction-at = c .before .before in
+    c .no-operation2 .ensures ∙ wanted-none _ _ _ _ (at-instruction-at .before .before .if1 .left) _ (at-instruction-at .instruction-at .ensures)
+    (c .before .match .keys2)
 
 operation-of-requires : tie.Need-operation-of-requires
 operation-of-requires c κs =
-    c .before .before .before .before .before .before .before .before .before .pre (c .before .before .before .before .before .if1 .left)
-    .1
+    let at-if1 = c .before .before .before .before .before in
+    let at-start = at-if1 .before .before .before .before in
+    at-start .pre (at-if1 .if1 .left) .1
 
 returns-3 : tie.Need-returns-3
 returns-3 c =
-    c .operation-of .ensures ∙ wanted-camac _ _ _ _ (c .before .before .before .before .before .before .if1 .left) _ (c .before .before
-    .before .before .instruction-at .ensures) _ (c .before .before .i .given .1)
+    let at-instruction-at = c .before .before .before .before in
+    c .operation-of .ensures ∙ wanted-camac _ _ _ _ (at-instruction-at .before .before .if1 .left) _ (at-instruction-at .instruction-at .ensures) _
+    (c .before .before .i .given .1)
 
 pub wanted-at-spec : {M : Type 1} → statement M
 wanted-at-spec =

@@ -42,9 +42,9 @@ cast-t12 c =
 
 returns : tie.Need-returns Inv-loop μ-loop
 returns c =
-    c .before .before .before .before .before .loop .inv .1 ∙ jumps-bad _ _ _ _ _ _
-    (c .before .before .before .before .loop-test .taken)
-    (c .before .before .before .before .before .before .before .before .pre .1) refl
+    let at-loop-test = c .before .before .before .before in
+    let at-start = at-loop-test .before .before .before .before in
+    at-loop-test .before .loop .inv .1 ∙ jumps-bad _ _ _ _ _ _ (at-loop-test .loop-test .taken) (at-start .pre .1) refl
     (c .before .before .instruction-at .ensures) (sym (c .if1 .taken) ∙ c .before .is-bad-target .ensures)
 
 add-k : tie.Need-add-k Inv-loop μ-loop
@@ -54,13 +54,13 @@ loop-less : tie.Need-loop-less Inv-loop μ-loop
 loop-less c = omega arith
 
 loop-again : tie.Need-loop-again Inv-loop μ-loop
-loop-again c = (
-  omega arith,
-  c .before .before .before .before .before .loop .inv .1 ∙ jumps-more _ _ _ _ _ _
-      (c .before .before .before .before .loop-test .taken)
-      (c .before .before .before .before .before .before .before .before .pre .1) refl
-      (c .before .before .instruction-at .ensures) (sym (c .if1 .left) ∙ c .before .is-bad-target .ensures),
-)
+loop-again c =
+    let at-loop-test = c .before .before .before .before in
+    let at-start = at-loop-test .before .before .before .before in (
+      omega arith,
+      at-loop-test .before .loop .inv .1 ∙ jumps-more _ _ _ _ _ _ (at-loop-test .loop-test .taken) (at-start .pre .1) refl
+          (c .before .before .instruction-at .ensures) (sym (c .if1 .left) ∙ c .before .is-bad-target .ensures),
+    )
 
 returns-2 : tie.Need-returns-2 Inv-loop μ-loop
 returns-2 c = c .before .loop .inv .1 ∙ jumps-right _ _ _ (c .loop-test .left)

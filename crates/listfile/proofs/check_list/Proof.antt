@@ -32,20 +32,18 @@ same-length : tie.Need-same-length
 same-length c = search needs
 
 returns-2 : tie.Need-returns-2
-returns-2 c = (
-  list-fields _
-      (sym (c .before .before .before .before .before .before .before .before .first-fault .ensures)
-      ∙ c .before .before .before .before .before .before .before .if1 .left)
-      _ (c .before .before .before .before .before .pass-fields .ensures .0) _ _ (c .before .enum-told .given .1)
-      (c .refusal-in .ensures),
-  tt,
-)
+returns-2 c =
+    let at-pass-fields = c .before .before .before .before .before in
+    let first = sym (at-pass-fields .before .before .before .first-fault .ensures) ∙ at-pass-fields .before .before .if1 .left in (
+      list-fields _ first _ (at-pass-fields .pass-fields .ensures .0) _ _ (c .before .enum-told .given .1) (c .refusal-in .ensures),
+      tt,
+    )
 
 check-jumps-requires : tie.Need-check-jumps-requires
 check-jumps-requires c κs =
-    let t = table-counted _ _ _ _ (c .before .before .pass .given .1)
-    (c .before .before .before .before .before .before .pass-fields .ensures .1) in
-    (omega (arith, c .before .before .before .before .before .before .pass-fields .kept .1 .0), t .1)
+    let at-pass-fields = c .before .before .before .before .before .before in
+    let t = table-counted _ _ _ _ (c .before .before .pass .given .1) (at-pass-fields .pass-fields .ensures .1) in
+    (omega (arith, at-pass-fields .pass-fields .kept .1 .0), t .1)
 
 enum-known-jumps : tie.Need-enum-known-jumps
 enum-known-jumps c = search needs
@@ -61,11 +59,11 @@ same-length-2 c = search needs
 
 returns-3 : tie.Need-returns-3
 returns-3 c =
-    let first = sym (c .before .before .before .before .before .before .before .before .before .before .before .before .before .first-fault .ensures)
-    ∙ c .before .before .before .before .before .before .before .before .before .before .before .before .if1 .left in (
-      list-jumps _ first _ (c .before .before .before .before .before .before .before .before .before .before .pass-fields .ensures .0) _
-          (c .before .before .before .before .before .before .pass .given .1) _ (c .before .before .before .check-jumps .ensures) _
-          (c .before .jumps .given .1),
+    let at-pass = c .before .before .before .before .before .before in
+    let at-pass-fields = at-pass .before .before .before .before in
+    let first = sym (at-pass-fields .before .before .before .first-fault .ensures) ∙ at-pass-fields .before .before .if1 .left in (
+      list-jumps _ first _ (at-pass-fields .pass-fields .ensures .0) _
+          (at-pass .pass .given .1) _ (c .before .before .before .check-jumps .ensures) _ (c .before .jumps .given .1),
       tt,
     )
 
@@ -74,12 +72,12 @@ same-length-3 c = search needs
 
 returns-4 : tie.Need-returns-4
 returns-4 c =
-    let first = sym (c .before .before .before .before .before .before .before .before .before .before .before .before .before .first-fault .ensures)
-    ∙ c .before .before .before .before .before .before .before .before .before .before .before .before .if1 .left in
-    let table = table-counted _ _ _ _ (c .before .before .before .before .before .before .pass .given .1)
-    (c .before .before .before .before .before .before .before .before .before .before .pass-fields .ensures .1) in (
-      list-program _ first _ (c .before .before .before .before .before .before .before .before .before .before .pass-fields .ensures .0) _
-          (c .before .before .before .before .before .before .pass .given .1) _ (c .before .before .before .check-jumps .ensures) _
+    let at-pass = c .before .before .before .before .before .before in
+    let at-pass-fields = at-pass .before .before .before .before in
+    let first = sym (at-pass-fields .before .before .before .first-fault .ensures) ∙ at-pass-fields .before .before .if1 .left in
+    let table = table-counted _ _ _ _ (at-pass .pass .given .1) (at-pass-fields .pass-fields .ensures .1) in (
+      list-program _ first _ (at-pass-fields .pass-fields .ensures .0) _
+          (at-pass .pass .given .1) _ (c .before .before .before .check-jumps .ensures) _
           (c .short-at .ensures .0) (c .before .enum-told2 .given .1),
       (table .0, (c .short-at .ensures .1, table .1)),
     )

@@ -35,13 +35,14 @@ is-unknown-requires c κs = search needs
 
 returns-3 : tie.Need-returns-3
 returns-3 c =
-    head-5 _ _ _ (c .before .before .before .before .before .if1 .left) _
-    (c .before .before .before .before .short-at .ensures .0) (c .before .before .before .if2 .left) (omega arith)
+    let at-short-at = c .before .before .before .before in
+    head-5 _ _ _ (at-short-at .before .if1 .left) _
+    (at-short-at .short-at .ensures .0) (c .before .before .before .if2 .left) (omega arith)
 
 returns-4 : tie.Need-returns-4
 returns-4 c =
-    head-3 _ _ _ (c .before .before .before .before .before .before .if1 .left) _
-    (c .before .before .before .before .before .short-at .ensures .0) (c .before .before .before .before .if2 .left)
+    let at-if2 = c .before .before .before .before in
+    head-3 _ _ _ (at-if2 .before .before .if1 .left) _ (at-if2 .before .short-at .ensures .0) (at-if2 .if2 .left)
     (omega arith) _ (c .before .before .before .tag-at .ensures)
     (sym (c .before .before .is-unknown .ensures) ∙ c .if4 .taken)
 
@@ -50,20 +51,20 @@ is-wrong-length-requires c κs = search needs
 
 returns-5 : tie.Need-returns-5
 returns-5 c =
-    head-4 _ _ _ (c .before .before .before .before .before .before .before .before .if1 .left) _
-    (c .before .before .before .before .before .before .before .short-at .ensures .0)
-    (c .before .before .before .before .before .before .if2 .left) (c .before .before .before .if3 .left) _
-    (c .before .before .before .before .before .tag-at .ensures)
-    (sym (c .before .before .before .before .is-unknown .ensures) ∙ c .before .before .if4 .left)
+    let at-is-unknown = c .before .before .before .before in
+    let at-if1 = at-is-unknown .before .before .before .before in
+    head-4 _ _ _ (at-if1 .if1 .left) _ (at-is-unknown .before .before .before .short-at .ensures .0)
+    (at-is-unknown .before .before .if2 .left) (c .before .before .before .if3 .left) _
+    (at-is-unknown .before .tag-at .ensures) (sym (at-is-unknown .is-unknown .ensures) ∙ c .before .before .if4 .left)
     (sym (c .before .is-wrong-length .ensures) ∙ c .if5 .taken)
 
 returns-6 : tie.Need-returns-6
 returns-6 c =
-    head-0 _ _ _ (c .before .before .before .before .before .before .before .before .if1 .left) _
-    (c .before .before .before .before .before .before .before .short-at .ensures .0)
-    (c .before .before .before .before .before .before .if2 .left) (c .before .before .before .if3 .left) _
-    (c .before .before .before .before .before .tag-at .ensures)
-    (sym (c .before .before .before .before .is-unknown .ensures) ∙ c .before .before .if4 .left)
+    let at-is-unknown = c .before .before .before .before in
+    let at-if1 = at-is-unknown .before .before .before .before in
+    head-0 _ _ _ (at-if1 .if1 .left) _ (at-is-unknown .before .before .before .short-at .ensures .0)
+    (at-is-unknown .before .before .if2 .left) (c .before .before .before .if3 .left) _
+    (at-is-unknown .before .tag-at .ensures) (sym (at-is-unknown .is-unknown .ensures) ∙ c .before .before .if4 .left)
     (sym (c .before .is-wrong-length .ensures) ∙ c .if5 .left)
 
 pub head-fault-spec : {M : Type 1} → statement M

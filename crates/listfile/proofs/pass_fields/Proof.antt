@@ -49,16 +49,17 @@ number-of-requires c κs = search needs
 
 same-length : tie.Need-same-length Inv-loop μ-loop
 same-length c =
-    c .before .before .before .before .before .loop .inv .6 ∙ sym
-    (c .before .before .before .before .before .before .before .before .pre .1)
+    let at-loop = c .before .before .before .before .before in
+    at-loop .loop .inv .6 ∙ sym (at-loop .before .before .before .pre .1)
 
 returns : tie.Need-returns Inv-loop μ-loop
-returns c = (
-  c .before .before .before .before .before .loop .inv .0 ∙ pass-refused _ _ _ _ _ _ _ _ (omega arith)
-      (c .before .before .before .before .loop-test .taken) (c .before .before .before .read-at .ensures)
-      (c .before .enum-told2 .given .1) (c .number-of .ensures),
-  tt,
-)
+returns c =
+    let at-loop-test = c .before .before .before .before in (
+      at-loop-test .before .loop .inv .0 ∙ pass-refused _ _ _ _ _ _ _ _ (omega arith)
+          (at-loop-test .loop-test .taken) (c .before .before .before .read-at .ensures)
+          (c .before .enum-told2 .given .1) (c .number-of .ensures),
+      tt,
+    )
 
 next-place-requires : tie.Need-next-place-requires Inv-loop μ-loop
 next-place-requires c κs = omega arith
@@ -89,11 +90,11 @@ loop-less c =
 
 loop-again : tie.Need-loop-again Inv-loop μ-loop
 loop-again c =
-    let i = c .before .before .before .before .before .loop .inv in
+    let at-loop-test = c .before .before .before .before in
+    let i = at-loop-test .before .loop .inv in
     let read = sym (c .before .before .before .read-at .ensures) ∙ c .before .enum-told .given .1 in
     let lies = field-lies _ _ _ _ read in (
-      i .0 ∙ pass-turn _ _ _ _ _ (omega arith) (c .before .before .before .before .loop-test .taken) read (i .1)
-          (c .next-place .ensures),
+      i .0 ∙ pass-turn _ _ _ _ _ (omega arith) (at-loop-test .loop-test .taken) read (i .1) (c .next-place .ensures),
       place-more _ _ _ _ (i .1) (c .next-place .ensures),
       omega arith,
       omega (arith, c .next-place .ensures),

@@ -45,18 +45,18 @@ put-two-requires c κs =
 
 add-put-four : tie.Need-add-put-four
 add-put-four c =
+    let at-if2 = c .before .before .before .before .before in
     omega (
       arith,
-      room-padded _ _ (c .before .before .before .before .before .if2 .taken)
-          (rw (c .before .before .before .before .before .before .if1 .taken) at (c .before .before .before .before .before .before .before .before .pre)),
+      room-padded _ _ (at-if2 .if2 .taken) (rw (at-if2 .before .if1 .taken) at (at-if2 .before .before .before .pre)),
     )
 
 put-four-requires : tie.Need-put-four-requires
 put-four-requires c κs =
+    let at-if2 = c .before .before .before .before .before in
     omega (
       arith,
-      room-padded _ _ (c .before .before .before .before .before .if2 .taken)
-          (rw (c .before .before .before .before .before .before .if1 .taken) at (c .before .before .before .before .before .before .before .before .pre)),
+      room-padded _ _ (at-if2 .if2 .taken) (rw (at-if2 .before .if1 .taken) at (at-if2 .before .before .before .pre)),
       simp length-set at (ap length (c .before .before .before .put-two .ensures)),
     )
 
@@ -71,12 +71,12 @@ same-length c = search needs
 
 returns : tie.Need-returns
 returns c =
+    let at-put-two = c .before .before .before .before .before .before in
     c .before .before .put-four .ensures
     ∙ rw (
-      c .before .before .before .before .before .before .before .before .before .if1 .taken,
-      c .before .before .before .before .before .before .put-two .ensures,
-    )
-    (sym (stored-padded _ _ _ (c .before .before .before .before .before .before .before .before .if2 .taken)))
+      at-put-two .before .before .before .if1 .taken,
+      at-put-two .put-two .ensures,
+    ) (sym (stored-padded _ _ _ (at-put-two .before .before .if2 .taken)))
 
 same-length-2 : tie.Need-same-length-2
 same-length-2 c = search needs

@@ -54,11 +54,11 @@ same-length-2 c = search needs
 
 returns-2 : tie.Need-returns-2
 returns-2 c =
+    let at-checked = c .before .before .before .before .before .before in
+    let at-check-list = at-checked .before .before .before .before in
     refused-by _ _ _ _ _ (c .refused .ensures)
-    (prepare-lost _ _ _ _
-    (c .before .before .before .before .before .before .before .before .before .before .check-list .ensures .0) _
-    (c .before .before .before .before .before .before .checked .given .1) _ (c .before .before .before .walk .ensures)
-    (c .before .enum-told2 .given .1))
+    (prepare-lost _ _ _ _ (at-check-list .check-list .ensures .0) _ (at-checked .checked .given .1) _
+    (c .before .before .before .walk .ensures) (c .before .enum-told2 .given .1))
 
 refused-requires-2 : tie.Need-refused-requires-2
 refused-requires-2 c κs = search needs
@@ -68,12 +68,12 @@ same-length-3 c = search needs
 
 returns-3 : tie.Need-returns-3
 returns-3 c =
+    let at-walked = c .before .before .before .before in
+    let at-checked = at-walked .before .before .before .before .before in
+    let at-check-list = at-checked .before .before .before .before in
     refused-by _ _ _ _ _ (c .refused2 .ensures)
-    (prepare-20 _ _ _ _
-    (c .before .before .before .before .before .before .before .before .before .before .before .before .before .check-list .ensures .0)
-    _ (c .before .before .before .before .before .before .before .before .before .checked .given .1) _
-    (c .before .before .before .before .before .before .walk .ensures) _
-    (c .before .before .before .before .walked .given .1) (omega arith))
+    (prepare-20 _ _ _ _ (at-check-list .check-list .ensures .0) _ (at-checked .checked .given .1) _
+    (at-walked .before .before .walk .ensures) _ (at-walked .walked .given .1) (omega arith))
 
 refused-requires-3 : tie.Need-refused-requires-3
 refused-requires-3 c κs = search needs
@@ -83,30 +83,28 @@ same-length-4 c = search needs
 
 returns-4 : tie.Need-returns-4
 returns-4 c =
+    let at-walked = c .before .before .before .before .before .before in
+    let at-checked = at-walked .before .before .before .before .before in
+    let at-check-list = at-checked .before .before .before .before in
     refused-by _ _ _ _ _ (c .refused3 .ensures)
-    (prepare-21 _ _ _ _
-    (c .before .before .before .before .before .before .before .before .before .before .before .before .before .before .before .check-list .ensures .0)
-    _ (c .before .before .before .before .before .before .before .before .before .before .before .checked .given .1) _
-    (c .before .before .before .before .before .before .before .before .walk .ensures) _
-    (c .before .before .before .before .before .before .walked .given .1) (c .before .before .before .if1 .left)
+    (prepare-21 _ _ _ _ (at-check-list .check-list .ensures .0) _ (at-checked .checked .given .1) _
+    (at-walked .before .before .walk .ensures) _ (at-walked .walked .given .1) (c .before .before .before .if1 .left)
     (c .before .if2 .taken))
 
 same-length-5 : tie.Need-same-length-5
 same-length-5 c = search needs
 
 returns-5 : tie.Need-returns-5
-returns-5 c = (
-  prepare-ready _ _ _ _
-      (c .before .before .before .before .before .before .before .before .before .before .before .before .before .before .check-list .ensures .0)
-      _ (c .before .before .before .before .before .before .before .before .before .before .checked .given .1) _
-      (c .before .before .before .before .before .before .before .walk .ensures) _
-      (c .before .before .before .before .before .walked .given .1) (c .before .before .if1 .left) (c .if2 .left),
-  planned _ _ _ _
-      (c .before .before .before .before .before .before .before .before .before .before .checked .given .1)
-      (c .before .before .before .before .before .before .before .before .before .before .before .before .before .before .check-list .ensures .1)
-      _ (c .before .before .before .before .before .before .before .walk .ensures) _
-      (c .before .before .before .before .before .walked .given .1),
-)
+returns-5 c =
+    let at-walked = c .before .before .before .before .before in
+    let at-checked = at-walked .before .before .before .before .before in
+    let at-check-list = at-checked .before .before .before .before in (
+      prepare-ready _ _ _ _ (at-check-list .check-list .ensures .0) _ (at-checked .checked .given .1) _
+          (at-walked .before .before .walk .ensures) _
+          (at-walked .walked .given .1) (c .before .before .if1 .left) (c .if2 .left),
+      planned _ _ _ _ (at-checked .checked .given .1) (at-check-list .check-list .ensures .1)
+          _ (at-walked .before .before .walk .ensures) _ (at-walked .walked .given .1),
+    )
 
 pub prepare-spec : {M : Type 1} → statement M
 prepare-spec =

@@ -56,11 +56,12 @@ enum-told c = search needs
 
 returns-2 : tie.Need-returns-2 Inv-loop μ-loop
 returns-2 c =
-    let field = field-here _ _ _ _ _ _ (c .before .before .before .before .before .if1 .left)
-    (c .before .before .before .before .before .before .before .before .before .before .pre .1 .1 .1) refl
+    let at-if1 = c .before .before .before .before .before in
+    let at-start = at-if1 .before .before .before .before .before in
+    let field = field-here _ _ _ _ _ _ (at-if1 .if1 .left) (at-start .pre .1 .1 .1) refl
     (c .before .before .before .instruction-at .ensures) in
     let stopped = sym (c .before .before .turn-of .ensures) ∙ c .enum-told .given .1 in
-    walk-halted _ _ _ (c .before .before .before .before .before .before .before .loop .inv .0 ∙ ahead-halt _ _ _ _ _ field _ (omega arith) stopped)
+    walk-halted _ _ _ (at-if1 .before .before .loop .inv .0 ∙ ahead-halt _ _ _ _ _ field _ (omega arith) stopped)
     (record { worst = omega arith; incoming = omega arith; outgoing = omega arith })
 
 add-visits : tie.Need-add-visits Inv-loop μ-loop
@@ -71,14 +72,15 @@ loop-less c = omega arith
 
 loop-again : tie.Need-loop-again Inv-loop μ-loop
 loop-again c =
-    let i = c .before .before .before .before .before .before .before .before .loop .inv in
-    let field = field-here _ _ _ _ _ _ (c .before .before .before .before .before .before .if1 .left)
-    (c .before .before .before .before .before .before .before .before .before .before .before .pre .1 .1 .1) refl
-    (c .before .before .before .before .instruction-at .ensures) in
+    let at-instruction-at = c .before .before .before .before in
+    let at-loop = at-instruction-at .before .before .before .before in
+    let i = at-loop .loop .inv in
+    let field = field-here _ _ _ _ _ _ (at-instruction-at .before .before .if1 .left)
+    (at-loop .before .before .before .pre .1 .1 .1) refl (at-instruction-at .instruction-at .ensures) in
     let turn = sym (c .before .before .before .turn-of .ensures) ∙ c .before .turn .given .1 in
-    let grown = turn-grows _ _ _ _ _ _ (c .before .before .before .before .before .before .before .before .before .before .before .pre .1 .1 .0)
-    (words-few _ _ _ (c .before .before .before .before .instruction-at .ensures)) turn in (
-      i .0 ∙ ahead-turn _ _ _ _ _ field _ _ _ _ (c .before .before .before .before .before .before .before .loop-test .taken) turn,
+    let grown = turn-grows _ _ _ _ _ _ (at-loop .before .before .before .pre .1 .1 .0)
+    (words-few _ _ _ (at-instruction-at .instruction-at .ensures)) turn in (
+      i .0 ∙ ahead-turn _ _ _ _ _ field _ _ _ _ (at-instruction-at .before .before .before .loop-test .taken) turn,
       omega arith,
       omega arith,
       omega arith,
