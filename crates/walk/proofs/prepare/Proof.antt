@@ -68,12 +68,12 @@ same-length-3 c = search needs
 
 returns-3 : tie.Need-returns-3
 returns-3 c =
-    let at-walked = c .before .before .before .before in
-    let at-checked = at-walked .before .before .before .before .before in
-    let at-check-list = at-checked .before .before .before .before in
     refused-by _ _ _ _ _ (c .refused2 .ensures)
-    (prepare-20 _ _ _ _ (at-check-list .check-list .ensures .0) _ (at-checked .checked .given .1) _
-    (at-walked .before .before .walk .ensures) _ (at-walked .walked .given .1) (omega arith))
+    (prepare-20 _ _ _ _
+    (c .before .before .before .before .before .before .before .before .before .before .before .before .before .check-list .ensures .0)
+    _ (c .before .before .before .before .before .before .before .before .before .checked .given .1) _
+    (c .before .before .before .before .before .before .walk .ensures) _
+    (c .before .before .before .before .walked .given .1) (omega arith))
 
 refused-requires-3 : tie.Need-refused-requires-3
 refused-requires-3 c κs = search needs
