@@ -89,9 +89,28 @@ fn long_at(list: &[u8], i: usize) -> u32
     requires { ⌜ i ≤ 131070 ⌝ }
     ensures { λ r. ⌜ r ≡ longAt (now (list .entry)) i ⌝ }
 {
+    if i + 4 <= list.len() {
+        return whole_at(list, i);
+    }
     let low = wide32(short_at(list, i));
     let high = wide32(short_at(list, i + 2));
     low + high * 65536
+}
+
+fn extended(x: u8) -> u32
+    ensures { λ r. ⌜ (r ≡ x) × (r < 256) ⌝ }
+{
+    x as u32
+}
+
+// The longword at a place where all four bytes are there: one look.
+fn whole_at(list: &[u8], i: usize) -> u32
+    requires { ⌜ i + 4 ≤ length (now list) ⌝ }
+    ensures { λ r. ⌜ r ≡ longAt (now (list .entry)) i ⌝ }
+{
+    extended(list[i])
+        + extended(list[i + 1]) * 256
+        + (extended(list[i + 2]) + extended(list[i + 3]) * 256) * 65536
 }
 
 fn tag_of(byte: u8) -> Tag

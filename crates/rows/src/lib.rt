@@ -2,6 +2,7 @@
 use camac::Command;
 use camac::Direction;
 use camac::QMode;
+use camac::ScanPosition;
 use listfile::Instruction;
 use listfile::Refusal;
 use listfile::Sizes;
@@ -13,22 +14,46 @@ use run::Taken;
 use walk::Preparation;
 ghost use mathlib.Core.Path.{_≡_};
 ghost use mathlib.Core.List.{List};
-ghost use mathlib.Core.Bool.{true, false};
+ghost use mathlib.Core.Bool.{true, false, _||_, not};
 ghost use Prim.Native.Nat.{ℕ, _+_, _*_, _%_, _≤_, _<_};
-ghost use lib.Dec.{eqb};
+ghost use lib.Bits.{bitAnd};
+ghost use lib.Dec.{eqb, ltb};
 ghost use lib.ListN.{length, getD};
 ghost use Rattle.camac.specs.Words.{qmodeOf, directionOf};
 ghost use Rattle.packing.specs.Packing.{markAfterWords};
-ghost use Rattle.walk.specs.Walk.{movedWords};
+ghost use Rattle.walk.specs.Walk.{movedBy, movedWords};
+ghost use Rattle.camac.specs.Checks.{if_then_else_};
 ghost use Rattle.walk.specs.Sums.{planBy};
+ghost use Rattle.run.specs.Here.{Ready};
 ghost use Rattle.run.specs.Replies.{repliesIn, allFormed};
 ghost use Rattle.run.specs.Calls.{refusedRecord, stateOf, runOf, ranOf};
-ghost use Rattle.rows.specs.Row.{rowFrom, stoppedAt, FormedFrom, Grounds, Stage, Alive, Moves, isNoScan, Clean, cleanStored, cleanBytes, noteBehind, NoteRoom, cleaned, Ahead, Stretch};
+ghost use Rattle.rows.specs.Quiet.{unlessAd, judgedFlags, doneFlags, rulesOf, flagBits, Judged, movedOn, waitedOn, wordStored};
+ghost use Rattle.rows.specs.Row.{rowFrom, stoppedAt, FormedFrom, Grounds, Stage, Alive, Moves, isNoScan, Clean, cleanStored, cleanBytes, noteBehind, NoteRoom, cleaned, Ahead, Stretch, wordIn};
 
 // A record with the place of the row that it has come to.
 pub struct Visited {
     pub run: Record,
     pub at: usize,
+}
+
+// What an instruction decides once for its visit. An answer is no cause by its flags if of those in `mask` just those in `want` are set; its
+// word is done if those in `done` are. Steady: N and A stay, as in every Q-mode but scan.
+pub struct Rules {
+    pub limit: usize,
+    pub q: QMode,
+    pub direction: Direction,
+    pub wide: bool,
+    pub steady: bool,
+    pub mask: u8,
+    pub want: u8,
+    pub done: u8,
+}
+
+// What an answer that is no cause does before the last word: its word moves, or the instruction waits on. Other answers are judged in full.
+pub enum Effect {
+    Word,
+    Wait,
+    Other,
 }
 
 // Whether a row has only replies, to its end.
@@ -270,7 +295,256 @@ fn is_no_scan(c: Command) -> bool
     }
 }
 
-// The replies of one instruction, up to its last word or the end, and on along the walk.
+fn unless_ad(ad: bool, flags: u8) -> u8
+    ensures { λ r. ⌜ (r ≡ unlessAd ad flags) × (r ≤ flags) ⌝ }
+{
+    if ad { 0 } else { flags }
+}
+
+// The flags by which an answer is or is not a cause: TPE and LPE; X, not in scan; Q, in stop.
+fn judged_flags(q: QMode, ad: bool) -> u8
+    ensures { λ r. ⌜ r ≡ judgedFlags q ad ⌝ }
+{
+    match q {
+        QMode::Stop => {
+            let flags = unless_ad(ad, 50);
+            flags + 1
+        }
+        QMode::Ignore => unless_ad(ad, 50),
+        QMode::Repeat => unless_ad(ad, 50),
+        QMode::Scan => unless_ad(ad, 48),
+    }
+}
+
+// The flags of a done word.
+fn done_flags(q: QMode) -> u8
+    ensures { λ r. ⌜ r ≡ doneFlags q ⌝ }
+{
+    match q {
+        QMode::Stop => 1,
+        QMode::Ignore => 0,
+        QMode::Repeat => 1,
+        QMode::Scan => 3,
+    }
+}
+
+fn rules_of(limit: usize, c: Command) -> Rules
+    ensures { λ r. ⌜ r ≡ rulesOf limit c ⌝ }
+{
+    let t = c.transfer;
+    let q = camac::qmode_of(t);
+    let mask = judged_flags(q, c.ad);
+    Rules {
+        limit: limit,
+        q: q,
+        direction: camac::direction_of(t),
+        wide: c.wide,
+        steady: is_no_scan(c),
+        mask: mask,
+        want: mask % 4,
+        done: done_flags(q),
+    }
+}
+
+// The status bits of an answer that is no cause. A reply has six flags.
+fn flag_bits(flags: u8) -> u32
+    requires { ⌜ flags < 64 ⌝ }
+    ensures { λ r. ⌜ r ≡ flagBits flags ⌝ }
+{
+    if flags == 3 {
+        return 0;
+    }
+    let low = extended(flags & 51) * 65536 ^ 196608;
+    let middle = extended(flags & 4) * 2097152 | extended(flags & 8) * 8388608;
+    low | (middle | error_bit(flags))
+}
+
+// The bit of TPE, LPE or ERR.
+fn error_bit(flags: u8) -> u32
+    ensures { λ r. ⌜ r ≡ (if eqb (bitAnd flags 52) 0 then 0 else 262144) ⌝ }
+{
+    if flags & 52 == 0 { 0 } else { 262144 }
+}
+
+fn extended(x: u8) -> u32
+    ensures { λ r. ⌜ (r ≡ x) × (r < 256) ⌝ }
+{
+    x as u32
+}
+
+// A done word, not the last: a scan needs a place for the next.
+fn has_next_word(steady: bool, p: ScanPosition) -> bool
+    ensures { λ b. ⌜ b ≡ (steady || (ltb (p .subaddress) 15 || ltb (p .station) 23)) ⌝ }
+{
+    if steady {
+        return true;
+    }
+    if p.subaddress < 15 {
+        return true;
+    }
+    p.station < 23
+}
+
+// No word: a scan needs another station, repeat another try.
+fn has_next_try(rules: Rules, tries: usize, p: ScanPosition) -> bool
+    requires { ⌜ tries < 65536 ⌝ }
+    ensures { λ b. ⌜ b ≡ (if rules .steady then not (eqb (tries + 1) (rules .limit)) else ltb (p .station) 23) ⌝ }
+{
+    if rules.steady {
+        return tries + 1 != rules.limit;
+    }
+    p.station < 23
+}
+
+fn effect_of(rules: Rules, kind: u8, flags: u8, r: Record) -> Effect
+    requires { ⌜ r .tries < 65536 ⌝ }
+    ensures { λ e. ⌜ Judged rules kind flags r e ⌝ }
+{
+    let p = r.position;
+    if kind != 0 {
+        return Effect::Other;
+    }
+    if r.left == 1 {
+        return Effect::Other;
+    }
+    if flags & rules.mask != rules.want {
+        return Effect::Other;
+    }
+    if flags & rules.done == rules.done {
+        if has_next_word(rules.steady, p) {
+            return Effect::Word;
+        }
+        return Effect::Other;
+    }
+    if has_next_try(rules, r.tries, p) {
+        return Effect::Wait;
+    }
+    Effect::Other
+}
+
+// The data of the answer at a place.
+fn word_at(row: &[u8], at: usize) -> u32
+    requires { ⌜ at + 8 ≤ length (now row) ⌝ }
+    ensures { λ r. ⌜ r ≡ wordIn (now (row .entry)) at % 16777216 ⌝ }
+{
+    (extended(row[at + 4]) + extended(row[at + 5]) * 256 + extended(row[at + 6]) * 65536) % 16777216
+}
+
+// The word of the answer at a place into the incoming buffer, for a read.
+fn store_word(
+    direction: Direction,
+    wide: bool,
+    mark: usize,
+    row: &[u8],
+    at: usize,
+    incoming: &mut [u8],
+)
+    requires { ⌜ (at + 8 ≤ length (now row)) × (movedBy direction wide (record { incoming = mark; outgoing = 0 }) .incoming ≤ length (now incoming)) ⌝ }
+    ensures { λ r. ⌜ now (incoming .exit) ≡ wordStored direction wide (now (row .entry)) at mark (now (incoming .entry)) ⌝ }
+{
+    match direction {
+        Direction::Incoming => {
+            packing::store(incoming, mark, wide, word_at(row, at));
+        }
+        Direction::Outgoing => {}
+        Direction::Neither => {}
+    }
+}
+
+// The record after a word that is not the last. Numbers are an admitted list's.
+fn moved_on(rules: Rules, bits: u32, r: Record) -> Record
+    requires { ⌜ (1 ≤ r .left) × ((r .tries < 65536) × ((r .operations < 9223372036854775808)
+        × ((r .marks .incoming < 9223372036854775808) × (r .marks .outgoing < 9223372036854775808)))) ⌝ }
+    ensures { λ x. ⌜ x ≡ movedOn rules bits r ⌝ }
+{
+    let q = rules.q;
+    let direction = rules.direction;
+    let wide = rules.wide;
+    let position = r.position;
+    let marks = r.marks;
+    Record {
+        ended: false,
+        instruction: r.instruction,
+        left: r.left - 1,
+        tries: run::tries_after(q, true, r.tries),
+        position: run::position_after(q, true, position),
+        marks: run::moved_marks(direction, wide, marks),
+        operations: r.operations + 1,
+        status: r.status | bits,
+        note: run::note_after(direction, wide, r),
+    }
+}
+
+// The record after an answer without a word. Numbers are an admitted list's.
+fn waited_on(rules: Rules, bits: u32, r: Record) -> Record
+    requires { ⌜ (r .tries < 65536) × (r .operations < 9223372036854775808) ⌝ }
+    ensures { λ x. ⌜ x ≡ waitedOn rules bits r ⌝ }
+{
+    let q = rules.q;
+    let position = r.position;
+    let marks = r.marks;
+    let note = r.note;
+    Record {
+        ended: false,
+        instruction: r.instruction,
+        left: r.left,
+        tries: run::tries_after(q, false, r.tries),
+        position: run::position_after(q, false, position),
+        marks: marks,
+        operations: r.operations + 1,
+        status: r.status | bits,
+        note: note,
+    }
+}
+
+// The word of the quiet answer at a place, and the clean answers behind it.
+fn take_word(
+    rules: Rules,
+    c: Command,
+    flags: u8,
+    r: Record,
+    incoming: &mut [u8],
+    row: &[u8],
+    at: usize,
+) -> Visited
+    requires { ⌜ (rules ≡ rulesOf (rules .limit) c) × ((at + 8 ≤ length (now row)) × ((flags < 64) × (Ready c r (now incoming)
+        × (Ahead c r (now incoming) × Ahead c (movedOn rules (flagBits flags) r) (now incoming))))) ⌝ }
+    ensures { λ v. ⌜ Stretch c (movedOn rules (flagBits flags) r) (now (row .entry)) (at + 8)
+        (wordStored (rules .direction) (rules .wide) (now (row .entry)) at (r .marks .incoming) (now (incoming .entry))) (v .run) (v .at) (now (incoming .exit)) ⌝ }
+{
+    let marks = r.marks;
+    let direction = rules.direction;
+    store_word(direction, rules.wide, marks.incoming, row, at, incoming);
+    let moved = moved_on(rules, flag_bits(flags), r);
+    pass_clean(rules.steady, c, moved, incoming, row, at + 8)
+}
+
+// The reply at a place taken, and on along the walk where its last word is through.
+fn take_reply(
+    list: &[u8],
+    table: &[u16],
+    sizes: Sizes,
+    c: Command,
+    r: Record,
+    incoming: &mut [u8],
+    row: &[u8],
+    at: usize,
+) -> Visited
+    requires { ⌜ Grounds (now list) (now table) sizes (length (now incoming)) × ((FormedFrom (now row) at × (at < length (now row)))
+        × Alive (planBy (now list) sizes) c r) ⌝ }
+    ensures { λ v. ⌜ Moves (planBy (now (list .entry)) sizes) (now (row .entry)) r at (now (incoming .entry)) (v .run) (v .at) (now (incoming .exit))
+        × (v .at ≡ at + 8) ⌝ }
+{
+    let reply = run::reply_at(row, at);
+    let taken = run::take_here(sizes.limit, c, reply, r, incoming);
+    Visited {
+        run: engine::resume(list, table, sizes.count, taken, incoming),
+        at: at + 8,
+    }
+}
+
+// The replies of one instruction, up to its last word or the end, and on along the walk. Answers that are no cause are judged by their
+// flags; behind a word, clean ones are passed in a stretch.
 fn visit_replies(
     list: &[u8],
     table: &[u16],
@@ -285,25 +559,28 @@ fn visit_replies(
     ensures { λ v. ⌜ Moves (planBy (now (list .entry)) sizes) (now (row .entry)) first from (now (incoming .entry)) (v .run) (v .at) (now (incoming .exit))
         × (from < length (now (row .entry)) → from < v .at) ⌝ }
 {
-    let fast = is_no_scan(c);
+    let rules = rules_of(sizes.limit, c);
     let mut here = first;
     let mut at = from;
-    loop {
-        let v = pass_clean(fast, c, here, incoming, row, at);
-        if row.len() <= v.at {
-            return v;
+    while at < row.len() {
+        let flags = row[at + 1];
+        let effect = effect_of(rules, row[at], flags, here);
+        match effect {
+            Effect::Word => {
+                let v = take_word(rules, c, flags, here, incoming, row, at);
+                here = v.run;
+                at = v.at;
+            }
+            Effect::Wait => {
+                here = waited_on(rules, flag_bits(flags), here);
+                at += 8;
+            }
+            Effect::Other => {
+                return take_reply(list, table, sizes, c, here, incoming, row, at);
+            }
         }
-        let reply = run::reply_at(row, v.at);
-        let taken = run::take_here(sizes.limit, c, reply, v.run, incoming);
-        at = v.at + 8;
-        let Taken::Same(r) = taken else {
-            return Visited {
-                run: engine::resume(list, table, sizes.count, taken, incoming),
-                at: at,
-            };
-        };
-        here = r;
     }
+    Visited { run: here, at: at }
 }
 
 // The replies of a row, up to the end of the run.

@@ -1,8 +1,17 @@
--- `long_at` is `longAt`: two halves below 65,536, the second 65,536 times.
+-- `long_at` is `longAt`: two halves below 65,536, the second 65,536 times. Where all four bytes are there, they are read at once.
 use borrow.Author.Needs.{needs}
 use Rattle.listfile.specs.Bytes.{longAt}
 use Rattle.listfile.proofs.long_at.Statement.{statement}
 use Rattle.listfile.proofs.long_at.Tie as tie
+
+add-if1 : tie.Need-add-if1
+add-if1 c = search needs
+
+whole-at-requires : tie.Need-whole-at-requires
+whole-at-requires c κs = search needs
+
+returns : tie.Need-returns
+returns c = search needs
 
 short-at-requires : tie.Need-short-at-requires
 short-at-requires c κs = search needs
@@ -25,9 +34,9 @@ mul-result c = search needs
 add-result : tie.Need-add-result
 add-result c = search needs
 
-returns : tie.Need-returns
+returns-2 : tie.Need-returns-2
 unfolding longAt
-returns c =
+returns-2 c =
     simp (
       c .wide322 .ensures .0,
       c .before .short-at2 .ensures .0,
@@ -39,6 +48,9 @@ pub long-at-spec : {M : Type 1} → statement M
 long-at-spec =
     tie.close
     (tie.spec
+    add-if1
+    whole-at-requires
+    returns
     short-at-requires
     wide32-requires
     add-short-at
@@ -46,4 +58,4 @@ long-at-spec =
     wide32-requires-2
     mul-result
     add-result
-    returns)
+    returns-2)

@@ -1,0 +1,89 @@
+-- A quiet answer of the row taken at a record that waits: the same instruction waits behind it, with the record and the bytes that code makes.
+use Prim.Native.Nat.{ℕ, _+_, _≤_, _<_}
+use mathlib.Core.Path.{_≡_, refl, sym, ap, _∙_, subst}
+use mathlib.Core.Bool.{Bool, true, false, false≢true}
+use mathlib.Core.List.{List}
+use native.Mathlib.Omega.{arith}
+use borrow.Author.Tests.{ltb-true}
+use lib.Dec.{ltb, eqb}
+use lib.ListN.{length, getD, take, drop}
+use Rattle.camac.specs.declared.Command.{Command}
+use Rattle.camac.proofs.Bools.{and-left, and-right}
+use Rattle.listfile.specs.Bytes.{byteAt}
+use Rattle.listfile.specs.declared.Sizes.{Sizes}
+use Rattle.walk.specs.Admission.{Plan}
+use Rattle.walk.specs.Sums.{planBy}
+use Rattle.run.specs.Replies.{replyOf, isFormed, hasForm}
+use Rattle.run.specs.declared.Reply.the-variants.{Answered}
+use Rattle.run.specs.declared.Record.{Record}
+use Rattle.run.specs.declared.Taken.the-variants.{Same}
+use Rattle.run.proofs.TestFacts.{on}
+use Rattle.run.proofs.ReplyFacts.{piece-byte}
+use Rattle.rows.specs.Row.{FormedFrom, Grounds, Alive, Stays, wordIn, Ahead, Stretch}
+use Rattle.rows.specs.Quiet.{answerBy, flagBits, rulesOf, Quiet, movedOn, waitedOn, wordStored}
+use Rattle.rows.specs.declared.Rules.{Rules}
+use Rattle.rows.proofs.RowLaws.{FormedHere, formed-here}
+use Rattle.rows.proofs.VisitTurn.{stays}
+use Rattle.rows.proofs.QuietRow.{quiet-word, quiet-wait, wait-buffer, word-buffer, stored-word, quiet-reply}
+
+-- the flags of formed bytes are six bits
+few-flags : (bytes : List ℕ) → isFormed bytes ≡ true → byteAt bytes 1 < 64
+unfolding replyOf hasForm
+few-flags bytes formed =
+    let form : hasForm bytes ≡ true = on (hasForm bytes) (λ e. e) (λ e. absurd (false≢true (rw e at formed))) in
+    ltb-true (byteAt bytes 1) 64 (and-left _ _ (and-right (eqb (length bytes) 8) _ form))
+
+-- another buffer of the same length, and equal records
+pub ahead-as : {c : Command} {r r′ : Record} {b b′ : List ℕ} → r ≡ r′ → length b ≡ length b′ → Ahead c r′ b′ → Ahead c r b
+ahead-as {c} {b = b} {b′ = b′} er e x = subst (λ (r : Record). Ahead c r b) (sym er) (record {
+  some = x .some;
+  most = x .most;
+  incoming = x .incoming;
+  outgoing = x .outgoing;
+  operations = x .operations;
+  room = omega (arith, x .room, e);
+})
+
+pub stretch-as : {c : Command} {r r′ last : Record} {row : List ℕ} {from at : ℕ} {b b′ end : List ℕ} → r ≡ r′ → b ≡ b′
+    → Stretch c r row from b last at end → Stretch c r′ row from b′ last at end
+stretch-as {c} {r} {r′} {last} {row} {from} {at} {b} {b′} {end} er eb x =
+    subst (λ (y : Record). Stretch c y row from b′ last at end) er (subst (λ (y : List ℕ). Stretch c r row from y last at end) eb x)
+
+pub stays-as : {p : Plan} {c : Command} {row : List ℕ} {r r′ r″ : Record} {from at : ℕ} {b b′ : List ℕ} → r″ ≡ r′
+    → Stays p c row r from b r′ at b′ → Stays p c row r from b r″ at b′
+stays-as {p} {c} {row} {r} {from = from} {at = at} {b = b} {b′ = b′} e x = subst (λ (y : Record). Stays p c row r from b y at b′) (sym e) x
+
+pub rules-own : (limit : ℕ) (c : Command) (rules : Rules) → rules ≡ rulesOf limit c → rules ≡ rulesOf (rules .limit) c
+unfolding rulesOf
+rules-own limit c rules e = e ∙ ap (λ (l : ℕ). rulesOf l c) (sym (ap (λ (x : Rules). x .limit) e))
+
+module _ (list table : List ℕ) (s : Sizes) (room : ℕ) (g : Grounds list table s room) (c : Command) (r : Record)
+    (al : Alive (planBy list s) c r) (rules : Rules) (er : rules ≡ rulesOf (s .limit) c) (row : List ℕ) (at : ℕ) (f : FormedFrom row at)
+    (h : at < length row) (b : List ℕ) where
+  here : FormedHere row at
+  here = formed-here row at f h
+
+  pub few : getD row (at + 1) 0 < 64
+  few = subst (λ (n : ℕ). n < 64) (piece-byte row at 1 (omega arith)) (few-flags (take 8 (drop at row)) (here .formed))
+
+  pub word-taken : Quiet rules (getD row at 0) (getD row (at + 1) 0) r true
+      → Stays (planBy list s) c row r at b (movedOn rules (flagBits (getD row (at + 1) 0)) r) (at + 8)
+      (wordStored (rules .direction) (rules .wide) row at (r .marks .incoming) b)
+  word-taken x =
+      let n = x .noCause (s .limit) c (wordIn row at) er few in
+      let d = x .isDone (s .limit) c (wordIn row at) er few in
+      stays list table s room g c r al (Answered (answerBy (getD row (at + 1) 0) (wordIn row at))) b _
+      (stored-word (s .limit) c row at (r .marks .incoming) b rules er ∙ word-buffer (s .limit) c r (getD row (at + 1) 0) (wordIn row at) n b d)
+      (Same (movedOn rules (flagBits (getD row (at + 1) 0)) r))
+      (quiet-word (s .limit) c r (getD row (at + 1) 0) (wordIn row at) n rules er (x .more) d)
+      row at f h (quiet-reply row at _ (here .formed) (x .answer) refl) _ refl
+
+  pub wait-taken : Quiet rules (getD row at 0) (getD row (at + 1) 0) r false
+      → Stays (planBy list s) c row r at b (waitedOn rules (flagBits (getD row (at + 1) 0)) r) (at + 8) b
+  wait-taken x =
+      let n = x .noCause (s .limit) c (wordIn row at) er few in
+      let d = x .isDone (s .limit) c (wordIn row at) er few in
+      stays list table s room g c r al (Answered (answerBy (getD row (at + 1) 0) (wordIn row at))) b b
+      (wait-buffer (s .limit) c r (getD row (at + 1) 0) (wordIn row at) n rules er b d)
+      (Same (waitedOn rules (flagBits (getD row (at + 1) 0)) r)) (quiet-wait (s .limit) c r (getD row (at + 1) 0) (wordIn row at) n rules er d)
+      row at f h (quiet-reply row at _ (here .formed) (x .answer) refl) _ refl

@@ -1,0 +1,147 @@
+-- Answers that are no cause, before the last word of their instruction, as code judges them by their flags. Nothing here is a rule of document 01:
+-- the laws of QuietRow join these definitions to those that are.
+use Prim.Native.Nat.{ℕ, _+_, _-_, _*_, _/_, _%_, _≤_, _<_}
+use mathlib.Core.Path.{_≡_}
+use mathlib.Core.Bool.{Bool, true, false, _||_, not}
+use mathlib.Core.List.{List, [], _∷_}
+use mathlib.Core.Option.{some}
+use lib.Bits.{bitOr}
+use lib.Dec.{eqb}
+use lib.ListN.{take, drop}
+use Rattle.camac.specs.Checks.{if_then_else_}
+use Rattle.camac.specs.Words.{qmodeOf, directionOf}
+use Rattle.camac.specs.declared.QMode.{QMode}
+use Rattle.camac.specs.declared.QMode.the-variants.{Stop, Ignore, Repeat, Scan}
+use Rattle.camac.specs.declared.Command.{Command}
+use Rattle.camac.specs.declared.Direction.{Direction}
+use Rattle.camac.specs.declared.Direction.the-variants.{Incoming, Outgoing, Neither}
+use Rattle.packing.specs.Packing.{stored}
+use Rattle.walk.specs.Walk.{movedBy}
+use Rattle.run.specs.Replies.{replyOf}
+use Rattle.run.specs.Causes.{done, spent, parityError, scanLeaves, noX, noQInStop}
+use Rattle.run.specs.Status.{_sets_, bitsOf}
+use Rattle.run.specs.Effect.{noteAfter, triesAfter, positionAfter}
+use Rattle.run.specs.declared.Answer.{Answer}
+use Rattle.run.specs.declared.Record.{Record}
+use Rattle.rows.specs.Row.{isNoScan, wordIn}
+use Rattle.rows.specs.declared.Rules.{Rules}
+use Rattle.rows.specs.declared.Effect.{Effect}
+use Rattle.rows.specs.declared.Effect.the-variants.{Word, Wait}
+
+-- Flags ------------------------------------------------------------------------------------------------------------------
+
+-- the answer with these flags and this data
+abbrev pub answerBy : ℕ → ℕ → Answer
+answerBy f word = record {
+  q = eqb (f % 2) 1;
+  x = eqb (f / 2 % 2) 1;
+  err = eqb (f / 4 % 2) 1;
+  derr = eqb (f / 8 % 2) 1;
+  tpe = eqb (f / 16 % 2) 1;
+  lpe = eqb (f / 32 % 2) 1;
+  word = word;
+}
+
+-- the status bits of an answer that is no cause
+abbrev pub bitsBy : Answer → ℕ
+bitsBy a = bitsOf (
+    a .derr sets 26
+    ∷ a .err sets 23
+    ∷ a .lpe sets 21
+    ∷ a .tpe sets 20
+    ∷ (a .tpe || (a .lpe || a .err)) sets 18
+    ∷ not (a .x) sets 17
+    ∷ not (a .q) sets 16
+    ∷ [])
+
+unfoldable pub flagBits : ℕ → ℕ
+flagBits f = bitsBy (answerBy f 0)
+
+-- TPE, LPE and X, which are judged where AD = 0
+abbrev pub unlessAd : Bool → ℕ → ℕ
+unlessAd ad flags = if ad then 0 else flags
+
+-- the flags by which an answer is or is not a cause: TPE and LPE; X, not in scan; Q, in stop
+abbrev pub judgedFlags : QMode → Bool → ℕ
+judgedFlags Stop ad = unlessAd ad 50 + 1
+judgedFlags Ignore ad = unlessAd ad 50
+judgedFlags Repeat ad = unlessAd ad 50
+judgedFlags Scan ad = unlessAd ad 48
+
+-- the flags of a done word
+abbrev pub doneFlags : QMode → ℕ
+doneFlags Stop = 1
+doneFlags Ignore = 0
+doneFlags Repeat = 1
+doneFlags Scan = 3
+
+-- what an instruction decides once for its visit; of the judged flags, Q and X are wanted
+unfoldable pub rulesOf : ℕ → Command → Rules
+rulesOf limit c = record {
+  limit = limit;
+  q = qmodeOf (c .transfer);
+  direction = directionOf (c .transfer);
+  wide = c .wide;
+  steady = isNoScan (qmodeOf (c .transfer));
+  mask = judgedFlags (qmodeOf (c .transfer)) (c .ad);
+  want = judgedFlags (qmodeOf (c .transfer)) (c .ad) % 4;
+  done = doneFlags (qmodeOf (c .transfer));
+}
+
+-- The judgement ----------------------------------------------------------------------------------------------------------
+
+pub record NoCause (limit : ℕ) (c : Command) (r : Record) (a : Answer) : Type 0 where
+  pub unspent : spent limit (qmodeOf (c .transfer)) a (r .tries) ≡ false
+  pub parity : parityError (c .ad) a ≡ false
+  pub stays : scanLeaves (qmodeOf (c .transfer)) a (r .position) (r .left) ≡ false
+  pub x : noX (qmodeOf (c .transfer)) (c .ad) a ≡ false
+  pub q : noQInStop (qmodeOf (c .transfer)) a ≡ false
+
+-- an answer that is no cause, before the last word; `moves` says whether its word is done
+pub record Quiet (rules : Rules) (kind flags : ℕ) (r : Record) (moves : Bool) : Type 0 where
+  pub answer : kind ≡ 0
+  pub more : ¬ (r .left ≡ 1)
+  pub noCause : (limit : ℕ) (c : Command) (word : ℕ) → rules ≡ rulesOf limit c → flags < 64 → NoCause limit c r (answerBy flags word)
+  pub isDone : (limit : ℕ) (c : Command) (word : ℕ) → rules ≡ rulesOf limit c → flags < 64
+      → done (qmodeOf (c .transfer)) (answerBy flags word) ≡ moves
+
+-- what an effect says
+pub record Judged (rules : Rules) (kind flags : ℕ) (r : Record) (e : Effect) : Type 0 where
+  pub word : e ≡ Word → Quiet rules kind flags r true
+  pub wait : e ≡ Wait → Quiet rules kind flags r false
+
+-- What such an answer leaves -----------------------------------------------------------------------------------------------
+
+-- the record after a word
+unfoldable pub movedOn : Rules → ℕ → Record → Record
+movedOn rules bits r = record {
+  ended = false;
+  instruction = r .instruction;
+  left = r .left - 1;
+  tries = triesAfter (rules .q) true (r .tries);
+  position = positionAfter (rules .q) true (r .position);
+  marks = movedBy (rules .direction) (rules .wide) (r .marks);
+  operations = r .operations + 1;
+  status = bitOr (r .status) bits;
+  note = noteAfter (rules .direction) (rules .wide) r;
+}
+
+-- the record after an answer without one
+unfoldable pub waitedOn : Rules → ℕ → Record → Record
+waitedOn rules bits r = record {
+  ended = false;
+  instruction = r .instruction;
+  left = r .left;
+  tries = triesAfter (rules .q) false (r .tries);
+  position = positionAfter (rules .q) false (r .position);
+  marks = r .marks;
+  operations = r .operations + 1;
+  status = bitOr (r .status) bits;
+  note = r .note;
+}
+
+-- the incoming buffer after a word
+abbrev pub wordStored : Direction → Bool → List ℕ → ℕ → ℕ → List ℕ → List ℕ
+wordStored Incoming wide row at mark buffer = stored wide (wordIn row at % 16777216) mark buffer
+wordStored Outgoing wide row at mark buffer = buffer
+wordStored Neither wide row at mark buffer = buffer
