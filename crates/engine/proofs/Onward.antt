@@ -24,7 +24,7 @@ use Rattle.walk.proofs.Visits.{none-some, same-some}
 use Rattle.walk.proofs.MarksGrow.{over-grows}
 use Rattle.walk.proofs.Rest.{OnWalk, headed, rest-next}
 use Rattle.walk.proofs.TableFields.{field-past, field-here}
-use Rattle.run.specs.Effect.{State, runOn}
+use Rattle.run.specs.Effect.{State, endedAt, waitsFor, runOn}
 use Rattle.run.specs.Calls.{noOperation, operationOf, stateOf}
 use Rattle.run.specs.Here.{resumed, RoomFor, advanceRun, advanceBuffer}
 use Rattle.run.specs.declared.Record.{Record}
@@ -89,6 +89,14 @@ module _ (list table : List ℕ) (n k at : ℕ) (i : Instruction) (right : Table
       sym (ap (λ (vs : List Visit). runOn vs (stateOf r b out)) (here .same)
       ∙ stays (visit k (record { place = at; instruction = i })) r b r′ e (here .rest) out
       ∙ ap (λ (x : List ℕ). stateOf r′ x out) (sym eb))
+
+-- the record says at which instruction
+pub arrived-at : (i : Instruction) (k : ℕ) (r r′ : Record) → advanceRun i k r ≡ At r′ → r′ .instruction ≡ k
+unfolding advanceRun waitsFor endedAt
+arrived-at (Camac c) k r r′ e = let same : waitsFor k c r ≡ r′ = cc in ap (λ (x : Record). x .instruction) (sym same)
+arrived-at (Jump target) k r r′ e = let z : _≡_ {A = ℕ} 0 1 = cc in absurd (omega arith)
+arrived-at (Literal v) k r r′ e = let z : _≡_ {A = ℕ} 0 1 = cc in absurd (omega arith)
+arrived-at Halt k r r′ e = let same : endedAt k 0 r ≡ r′ = cc in ap (λ (x : Record). x .instruction) (sym same)
 
 -- Behind the last word -------------------------------------------------------------------------------------------------------
 

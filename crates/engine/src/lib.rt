@@ -17,8 +17,8 @@ use walk::Turn;
 ghost use mathlib.Core.Path.{_≡_};
 ghost use mathlib.Core.List.{List};
 ghost use Prim.Native.Nat.{ℕ, _+_, _≤_};
-ghost use lib.ListN.{length};
-ghost use Rattle.listfile.specs.Table.{TableRight};
+ghost use lib.ListN.{length, getD};
+ghost use Rattle.listfile.specs.Table.{instructionAt, TableRight};
 ghost use Rattle.walk.specs.Admission.{ready, countsOf};
 ghost use Rattle.walk.specs.Sums.{restFrom, planBy, Planned};
 ghost use Rattle.run.specs.Effect.{runOn};
@@ -34,6 +34,12 @@ pub enum Found {
     Missing,
 }
 
+// Where a run comes to along the walk: its record, and the instruction at which it waits or has ended.
+pub struct Arrival {
+    pub run: Record,
+    pub instruction: Instruction,
+}
+
 // On along the walk from instruction `from` to the first operation or the end. The walk from there halts, and its bytes have room.
 pub fn run_on(
     list: &[u8],
@@ -42,9 +48,10 @@ pub fn run_on(
     from: usize,
     r: Record,
     incoming: &mut [u8],
-) -> Record
+) -> Arrival
     requires { ⌜ (count ≤ length (now table)) × ((count ≤ 4096) × (TableRight (now list) (now table) count × Going (now list) count from r (now incoming))) ⌝ }
-    ensures { λ x. ⌜ ((out : List ℕ) → stateOf x (now (incoming .exit)) out ≡ runOn (restFrom (now (list .entry)) count from) (stateOf r (now (incoming .entry)) out)) ⌝ }
+    ensures { λ x. ⌜ ((out : List ℕ) → stateOf (x .run) (now (incoming .exit)) out ≡ runOn (restFrom (now (list .entry)) count from) (stateOf r (now (incoming .entry)) out))
+        × (x .instruction ≡ instructionAt (now (list .entry)) (getD (now (table .entry)) (x .run .instruction) 0)) ⌝ }
 {
     let mut k = from;
     let mut here = r;
@@ -57,7 +64,10 @@ pub fn run_on(
                 here = x;
             }
             Advance::At(x) => {
-                return x;
+                return Arrival {
+                    run: x,
+                    instruction: i,
+                };
             }
         }
     }
@@ -71,7 +81,10 @@ pub fn resume(list: &[u8], table: &[u16], count: usize, taken: Taken, incoming: 
 {
     match taken {
         Taken::Same(r) => r,
-        Taken::Through(r) => run_on(list, table, count, r.instruction + 1, r, incoming),
+        Taken::Through(r) => {
+            let arrival = run_on(list, table, count, r.instruction + 1, r, incoming);
+            arrival.run
+        }
         Taken::Ended(r) => r,
     }
 }
@@ -143,7 +156,7 @@ pub fn start(list: &[u8], incoming: &mut [u8], outgoing: &[u8]) -> Yield
     let sizes = plan.sizes;
     let zero = run::zero_record(false);
     let first = run_on(list, &table, sizes.count, 0, zero, incoming);
-    yield_of(list, &table, first, outgoing)
+    yield_of(list, &table, first.run, outgoing)
 }
 
 fn found_at(i: Instruction, before: Counts, after: u64) -> Found

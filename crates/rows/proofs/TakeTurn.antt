@@ -13,14 +13,14 @@ use Rattle.camac.specs.declared.Command.{Command}
 use Rattle.walk.specs.Walk.{onFrom, moved}
 use Rattle.walk.specs.Admission.{Plan}
 use Rattle.run.specs.Causes.{doneBy, codeOf}
-use Rattle.run.specs.Effect.{State, movedRecord, counted, waiting, takeReply}
+use Rattle.run.specs.Effect.{State, endedAt, movedRecord, counted, waiting, takeReply}
 use Rattle.run.specs.Fit.{fits}
 use Rattle.run.specs.Calls.{stateOf, takeFrom, takeAt}
 use Rattle.run.specs.Here.{onRun, hereRun, hereBuffer, resumed}
 use Rattle.run.specs.declared.Reply.{Reply}
 use Rattle.run.specs.declared.Record.{Record}
 use Rattle.run.specs.declared.Taken.{Taken}
-use Rattle.run.specs.declared.Taken.the-variants.{Same, Through}
+use Rattle.run.specs.declared.Taken.the-variants.{Same, Through, Ended}
 use Rattle.run.proofs.TestFacts.{on}
 use Rattle.run.proofs.TakeHere.{take-here}
 use Rattle.bound.proofs.Live.{fits-live, live-waits}
@@ -51,6 +51,24 @@ module _ (limit : ℕ) (c : Command) (reply : Reply) (r r′ : Record) where
           (λ e. let x = rw e at h in let z : _≡_ {A = ℕ} 0 1 = cc in absurd (omega arith))
           (λ e. kept _ (rw e at h) refl refl)
       go false h = kept _ h refl refl
+
+  -- the run has ended
+  pub ended-over : hereRun limit c reply r ≡ Ended r′ → r′ .ended ≡ true
+  unfolding hereRun onRun endedAt
+  ended-over h =
+      on (eqb (codeOf limit c r reply) 0)
+      (λ e. go (doneBy (qmodeOf (c .transfer)) reply) (rw e at h))
+      (λ e. over _ (rw e at h) refl)
+    where
+      over : (w : Record) → Ended w ≡ Ended r′ → w .ended ≡ true → r′ .ended ≡ true
+      over w e a = let q : w ≡ r′ = cc in ap (λ (x : Record). x .ended) (sym q) ∙ a
+
+      go : (x : Bool) → onRun c x r (counted limit c reply r) ≡ Ended r′ → r′ .ended ≡ true
+      go true h =
+          on (eqb (r .left) 1)
+          (λ e. let x = rw e at h in let z : _≡_ {A = ℕ} 0 1 = cc in absurd (omega arith))
+          (λ e. let x = rw e at h in let z : _≡_ {A = ℕ} 0 1 = cc in absurd (omega arith))
+      go false h = let z : _≡_ {A = ℕ} 0 1 = cc in absurd (omega arith)
 
   -- the last word is through
   pub record LastWord : Type 0 where

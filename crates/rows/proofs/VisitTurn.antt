@@ -3,7 +3,7 @@
 use Prim.Native.Nat.{ℕ, _+_, _<_}
 use mathlib.Core.Path.{_≡_, refl, sym, ap, _∙_, subst}
 use mathlib.Core.Logic.{inr, ⊎-elim}
-use mathlib.Core.Bool.{false}
+use mathlib.Core.Bool.{false, true≢false}
 use mathlib.Core.List.{List, [], _∷_}
 use mathlib.Core.Option.{some}
 use native.Mathlib.Omega.{arith}
@@ -30,9 +30,9 @@ use Rattle.run.specs.declared.Taken.the-variants.{Same, Through, Ended}
 use Rattle.bound.proofs.Admitted.{SoundPlan}
 use Rattle.engine.specs.Onward.{Going, recordIn, GoingBy}
 use Rattle.engine.proofs.PlanLaws.{ready-here, going-next, on-next, command-at, in-table}
-use Rattle.rows.specs.Row.{rowFrom, FormedFrom, Grounds, Stage, Alive, Stays, Moves, Stretch}
+use Rattle.rows.specs.Row.{rowFrom, FormedFrom, Grounds, Stage, Alive, Stays, Moves, Next, Stretch}
 use Rattle.rows.proofs.RowLaws.{formed-here, row-turn}
-use Rattle.rows.proofs.TakeTurn.{through-last, stage-alive, alive-waits, took, took-stage, took-same}
+use Rattle.rows.proofs.TakeTurn.{ended-over, through-last, stage-alive, alive-waits, took, took-stage, took-same}
 use Rattle.rows.proofs.CleanRow.{stretched}
 use Rattle.rows.proofs.WordsAhead.{grounds-sound}
 
@@ -79,8 +79,15 @@ module _ (list table : List ℕ) (s : Sizes) (room : ℕ) (g : Grounds list tabl
   pub ready : (b : List ℕ) → length b ≡ room → Ready c r b
   ready b e = ready-here list table s (g .counts) room (g .outgoing) (g .prepared) r c (al .rest) (al .waits) (al .fit) b e
 
+  -- the table has its instruction
+  pub next-here : Next list table r (Camac c)
+  next-here waits = sym (command-at list table s (g .counts) room (g .outgoing) (g .prepared) r c (al .rest) (al .waits))
+
   module _ (reply : Reply) (b b′ : List ℕ) (eb : b′ ≡ hereBuffer (s .limit) c reply r b) (taken : Taken)
       (et : taken ≡ hereRun (s .limit) c reply r) where
+    pub next-over : (x : Record) (i : Instruction) → taken ≡ Ended x → Next list table x i
+    next-over x i e waits = absurd (true≢false (sym (ended-over (s .limit) c reply r x (sym et ∙ e)) ∙ waits))
+
     -- behind the last word the run has room for the rest of the walk
     pub going : length b′ ≡ room → GoingBy list (s .count) taken b′
     going e = by taken et

@@ -16,7 +16,9 @@ use Rattle.camac.specs.declared.Direction.{Direction}
 use Rattle.camac.specs.declared.Direction.the-variants.{Incoming, Outgoing, Neither}
 use Rattle.packing.specs.Packing.{widthOf, markAfterWords, stored}
 use Rattle.packing.specs.declared.Marks.{Marks}
+use Rattle.listfile.specs.Table.{instructionAt}
 use Rattle.listfile.specs.declared.Sizes.{Sizes}
+use Rattle.listfile.specs.declared.Instruction.{Instruction}
 use Rattle.walk.specs.Walk.{Visit, movedWords}
 use Rattle.walk.specs.Admission.{Plan}
 use Rattle.walk.specs.declared.Counts.{Counts}
@@ -74,6 +76,10 @@ pub record Alive (p : Plan) (c : Command) (r : Record) : Type 0 where
   pub fit : fits p r ≡ true
   pub rest : List Visit
   pub waits : WaitsAt p r c rest
+
+-- the instruction that has been decoded for a record that waits
+abbrev pub Next : List ℕ → List ℕ → Record → Instruction → Type 0
+Next list table r i = r .ended ≡ false → i ≡ instructionAt list (getD table (r .instruction) 0)
 
 -- from one place of the row to another, with a record that still waits at the same instruction
 pub record Stays (p : Plan) (c : Command) (row : List ℕ) (r : Record) (from : ℕ) (b : List ℕ) (r′ : Record) (at : ℕ)

@@ -28,12 +28,19 @@ ghost use Rattle.run.specs.Here.{Ready};
 ghost use Rattle.run.specs.Replies.{repliesIn, allFormed};
 ghost use Rattle.run.specs.Calls.{refusedRecord, stateOf, runOf, ranOf};
 ghost use Rattle.rows.specs.Quiet.{unlessAd, judgedFlags, doneFlags, rulesOf, flagBits, Judged, movedOn, waitedOn, wordStored};
-ghost use Rattle.rows.specs.Row.{rowFrom, stoppedAt, FormedFrom, Grounds, Stage, Alive, Moves, isNoScan, Clean, cleanStored, cleanBytes, noteBehind, NoteRoom, cleaned, Ahead, Stretch, wordIn};
+ghost use Rattle.rows.specs.Row.{rowFrom, stoppedAt, FormedFrom, Grounds, Stage, Alive, Moves, isNoScan, Clean, cleanStored, cleanBytes, noteBehind, NoteRoom, cleaned, Ahead, Stretch, wordIn, Next};
 
 // A record with the place of the row that it has come to.
 pub struct Visited {
     pub run: Record,
     pub at: usize,
+}
+
+// A record with the place of the row that it has come to, and the instruction at which it waits.
+pub struct Arrived {
+    pub run: Record,
+    pub at: usize,
+    pub next: Instruction,
 }
 
 // What an instruction decides once for its visit. An answer is no cause by its flags if of those in `mask` just those in `want` are set; its
@@ -529,17 +536,36 @@ fn take_reply(
     incoming: &mut [u8],
     row: &[u8],
     at: usize,
-) -> Visited
+) -> Arrived
     requires { ⌜ Grounds (now list) (now table) sizes (length (now incoming)) × ((FormedFrom (now row) at × (at < length (now row)))
         × Alive (planBy (now list) sizes) c r) ⌝ }
     ensures { λ v. ⌜ Moves (planBy (now (list .entry)) sizes) (now (row .entry)) r at (now (incoming .entry)) (v .run) (v .at) (now (incoming .exit))
-        × (v .at ≡ at + 8) ⌝ }
+        × ((v .at ≡ at + 8) × Next (now (list .entry)) (now (table .entry)) (v .run) (v .next)) ⌝ }
 {
     let reply = run::reply_at(row, at);
     let taken = run::take_here(sizes.limit, c, reply, r, incoming);
-    Visited {
-        run: engine::resume(list, table, sizes.count, taken, incoming),
-        at: at + 8,
+    let after = at + 8;
+    match taken {
+        Taken::Same(x) => Arrived {
+            run: x,
+            at: after,
+            next: Instruction::Camac(c),
+        },
+        Taken::Through(x) => {
+            let arrival = engine::run_on(list, table, sizes.count, x.instruction + 1, x, incoming);
+            let next = arrival.instruction;
+            let last = arrival.run;
+            Arrived {
+                run: last,
+                at: after,
+                next: next,
+            }
+        }
+        Taken::Ended(x) => Arrived {
+            run: x,
+            at: after,
+            next: Instruction::Halt,
+        },
     }
 }
 
@@ -554,10 +580,10 @@ fn visit_replies(
     incoming: &mut [u8],
     row: &[u8],
     from: usize,
-) -> Visited
+) -> Arrived
     requires { ⌜ Grounds (now list) (now table) sizes (length (now incoming)) × (FormedFrom (now row) from × Alive (planBy (now list) sizes) c first) ⌝ }
     ensures { λ v. ⌜ Moves (planBy (now (list .entry)) sizes) (now (row .entry)) first from (now (incoming .entry)) (v .run) (v .at) (now (incoming .exit))
-        × (from < length (now (row .entry)) → from < v .at) ⌝ }
+        × ((from < length (now (row .entry)) → from < v .at) × Next (now (list .entry)) (now (table .entry)) (v .run) (v .next)) ⌝ }
 {
     let rules = rules_of(sizes.limit, c);
     let mut here = first;
@@ -580,35 +606,41 @@ fn visit_replies(
             }
         }
     }
-    Visited { run: here, at: at }
+    Arrived {
+        run: here,
+        at: at,
+        next: Instruction::Camac(c),
+    }
 }
 
-// The replies of a row, up to the end of the run.
+// The replies of a row, up to the end of the run. `start` is the instruction at which the first record waits.
 fn run_replies(
     list: &[u8],
     table: &[u16],
     sizes: Sizes,
     first: Record,
+    start: Instruction,
     incoming: &mut [u8],
     row: &[u8],
 ) -> Visited
-    requires { ⌜ Grounds (now list) (now table) sizes (length (now incoming)) × (FormedFrom (now row) 0 × Stage (planBy (now list) sizes) first) ⌝ }
+    requires { ⌜ Grounds (now list) (now table) sizes (length (now incoming)) × ((FormedFrom (now row) 0 × Stage (planBy (now list) sizes) first)
+        × Next (now list) (now table) first start) ⌝ }
     ensures { λ v. ⌜ ((outgoing : List ℕ) → rowFrom (planBy (now (list .entry)) sizes) (now (row .entry)) 0 (stateOf first (now (incoming .entry)) outgoing)
         ≡ stoppedAt (v .at) (stateOf (v .run) (now (incoming .exit)) outgoing)) ⌝ }
 {
     let mut here = first;
+    let mut next = start;
     let mut at: usize = 0;
     while at < row.len() {
         if here.ended {
             return Visited { run: here, at: at };
         }
-        let k = here.instruction;
-        let i = listfile::instruction_at(list, table[k]);
-        let Instruction::Camac(c) = i else {
+        let Instruction::Camac(c) = next else {
             return Visited { run: here, at: at };
         };
         let v = visit_replies(list, table, sizes, c, here, incoming, row, at);
         here = v.run;
+        next = v.next;
         at = v.at;
     }
     Visited { run: here, at: at }
@@ -650,7 +682,9 @@ pub fn run_row(list: &[u8], incoming: &mut [u8], outgoing: &[u8], row: &[u8]) ->
         run::zero_record(false),
         incoming,
     );
-    let v = run_replies(list, &table, sizes, first, incoming, row);
+    let begun = first.run;
+    let next = first.instruction;
+    let v = run_replies(list, &table, sizes, begun, next, incoming, row);
     let r = v.run;
     Ran {
         refusal: Refusal {

@@ -39,10 +39,10 @@ same-length c = search needs
 
 returns-2 : tie.Need-returns-2
 returns-2 c =
-    let at-run-on = c .before .before in let at-taken2 = at-run-on .before .before .before .before in
+    let at-run-on = c .before .before .before in let at-taken2 = at-run-on .before .before .before .before in
     let at-start = at-taken2 .before .before .before .before .before in
     λ out. resumed-through (restFrom (at-start .args .list .now) (at-start .args .count)) _ _ (at-start .args .incoming .now) out
-    (at-taken2 .taken2 .given .1) _ (at-run-on .run-on .ensures out)
+    (at-taken2 .taken2 .given .1) _ (at-run-on .run-on .ensures .0 out)
 
 returns-3 : tie.Need-returns-3
 returns-3 c =

@@ -1,16 +1,17 @@
 -- `run_on` is `runOn` over the rest of the walk: the invariant is that from here the walk gives what it gives from `from`, with its room
 -- kept; the rest of the walk grows shorter.
 use Prim.Native.Nat.{ℕ}
-use mathlib.Core.Path.{_≡_, refl, sym, _∙_}
+use mathlib.Core.Path.{_≡_, refl, sym, ap, _∙_}
 use mathlib.Core.List.{List}
 use native.Mathlib.Omega.{arith}
 use borrow.Author.Needs.{needs}
-use lib.ListN.{length}
+use lib.ListN.{length, getD}
+use Rattle.listfile.specs.Table.{instructionAt}
 use Rattle.walk.specs.Sums.{restFrom}
 use Rattle.run.specs.Effect.{runOn}
 use Rattle.run.specs.Calls.{stateOf}
 use Rattle.engine.specs.Onward.{Going}
-use Rattle.engine.proofs.Onward.{within, room-here, onward, arrived}
+use Rattle.engine.proofs.Onward.{within, room-here, onward, arrived, arrived-at}
 use Rattle.engine.proofs.run_on.Statement.{statement}
 use Rattle.engine.proofs.run_on.Tie as tie
 
@@ -77,9 +78,12 @@ returns c =
     let at-next2 = c .before in let at-advance-by = at-next2 .before .before .before .before in
     let at-instruction-at = at-advance-by .before .before in let at-loop = at-instruction-at .before .before in
     let at-start = at-loop .before .before .before .before in
-    λ out. arrived _ _ _ _ _ _ (at-start .pre .1 .1 .0) refl (at-instruction-at .instruction-at .ensures) _ _ (at-loop .loop .inv .1 .0) _
-    _ (sym (at-advance-by .advance-by .ensures .0) ∙ at-next2 .next2 .given .1) (at-advance-by .advance-by .ensures .1) out ∙ at-loop .loop
-    .inv .0 out
+    let at = sym (at-advance-by .advance-by .ensures .0) ∙ at-next2 .next2 .given .1 in (
+      λ out. arrived _ _ _ _ _ _ (at-start .pre .1 .1 .0) refl (at-instruction-at .instruction-at .ensures) _ _ (at-loop .loop .inv .1 .0) _ _
+          at (at-advance-by .advance-by .ensures .1) out ∙ at-loop .loop .inv .0 out,
+      at-instruction-at .instruction-at .ensures
+          ∙ ap (λ (k : ℕ). instructionAt (at-start .args .list .now) (getD (at-start .args .table .now) k 0)) (sym (arrived-at _ _ _ _ at)),
+    )
 
 pub run-on-spec : {M : Type 1} → statement M
 run-on-spec =

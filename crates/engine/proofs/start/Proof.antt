@@ -67,7 +67,7 @@ yield-of-requires c κs =
     let at-shared-slice-known = at-prepare .before .before .before .before in let at-start = at-shared-slice-known .before in
     let x = prepared-ready _ _ _ _ (at-prepare .prepare .ensures .0) _ (at-prepare .prepare .ensures .1) _ (at-prepared .prepared .given
     .1) (λ i. omega (arith, at-shared-slice-known .shared-slice-known .given i)) (at-prepare .prepare .kept .1 .0) in
-    start-asked _ _ _ _ _ (at-start .args .outgoing .now) x _ (at-zero-record2 .zero-record2 .ensures) _ _ (at-run-on .run-on .ensures)
+    start-asked _ _ _ _ _ (at-start .args .outgoing .now) x _ (at-zero-record2 .zero-record2 .ensures) _ _ (at-run-on .run-on .ensures .0)
 
 same-length : tie.Need-same-length
 same-length c = search needs
@@ -80,7 +80,7 @@ returns-2 c =
     let x = prepared-ready _ _ _ _ (at-prepare .prepare .ensures .0) _ (at-prepare .prepare .ensures .1) _ (at-prepared .prepared .given
     .1) (λ i. omega (arith, at-shared-slice-known .shared-slice-known .given i)) (at-prepare .prepare .kept .1 .0) in
     yields _ _ _ _ _ _ _ (c .yield-of .ensures) (start-yields _ _ _ _ _ _ x _ (at-zero-record2 .zero-record2 .ensures) _ _ (at-run-on
-    .run-on .ensures))
+    .run-on .ensures .0))
 
 pub start-spec : {M : Type 1} → statement M
 start-spec =

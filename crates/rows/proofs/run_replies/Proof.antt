@@ -1,28 +1,27 @@
--- `run_replies` is the run over the row. The loop's invariant: the run from the row's beginning is the run from the present place on, and the
--- record has ended or fits. A record that waits has its CAMAC instruction in the table.
+-- `run_replies` is the run over the row. The loop's invariant: the run from the row's beginning is the run from the present place on, the
+-- record has ended or fits, and `next` is the instruction at which it waits.
 use Prim.Native.Nat.{_-_}
 use mathlib.Core.Path.{_≡_, refl, _∙_}
 use native.Mathlib.Omega.{arith}
 use borrow.Author.Needs.{needs}
 use lib.ListN.{length}
 use Rattle.walk.specs.Sums.{planBy}
-use Rattle.rows.specs.Row.{Moves}
+use Rattle.rows.specs.Row.{Moves, Next}
 use Rattle.rows.proofs.RowLaws.{row-over, row-used}
-use Rattle.rows.proofs.VisitTurn.{moves-none, moves-on, grounds-at, tabled, decoded-as, no-other}
+use Rattle.rows.proofs.VisitTurn.{moves-none, moves-on, grounds-at, decoded-as, no-other}
 use Rattle.rows.proofs.run_replies.Statement.{statement}
 use Rattle.rows.proofs.run_replies.Tie as tie
 
 abbrev Inv-loop : tie.InvT-loop
-Inv-loop list table sizes incoming₀ row here₀ at₀ incoming here at = Moves (planBy list sizes) row here₀ at₀ incoming₀ here at incoming
-    × (length incoming ≡ length incoming₀)
+Inv-loop list table sizes incoming₀ row here₀ next₀ at₀ incoming here next at =
+    Moves (planBy list sizes) row here₀ at₀ incoming₀ here at incoming × (length incoming ≡ length incoming₀) × Next list table here next
 
 abbrev μ-loop : tie.MeasureT-loop
-μ-loop list table sizes incoming₀ row here₀ at₀ incoming here at = length row - at
+μ-loop list table sizes incoming₀ row here₀ next₀ at₀ incoming here next at = length row - at
 
 loop-holds : tie.Need-loop-holds Inv-loop μ-loop
 loop-holds c =
-    let start = c .before .before .before .before in
-    (moves-none _ _ _ _ _ (start .pre .1 .1) (start .pre .1 .0), refl)
+    let p = c .before .before .before .before .pre in (moves-none _ _ _ _ _ (p .1 .0 .1) (p .1 .0 .0), refl, p .1 .1)
 
 same-length : tie.Need-same-length Inv-loop μ-loop
 same-length c = c .before .before .loop .inv .1
@@ -30,65 +29,45 @@ same-length c = c .before .before .loop .inv .1
 returns : tie.Need-returns Inv-loop μ-loop
 returns c = λ outgoing. c .before .before .loop .inv .0 .goes outgoing ∙ row-over _ _ _ _ (c .if1 .taken)
 
-mul-instruction-at : tie.Need-mul-instruction-at Inv-loop μ-loop
-mul-instruction-at c =
-    let at-loop = c .before .before in
-    let start = at-loop .before .before .before .before .before in
-    omega (arith, tabled _ _ _ _ (start .pre .0) _ (at-loop .loop .inv .0 .stage) (c .if1 .left), start .pre .0 .prepared .entries)
-
-shared-slice-read-instruction-at : tie.Need-shared-slice-read-instruction-at Inv-loop μ-loop
-shared-slice-read-instruction-at c =
-    let at-loop = c .before .before .before in
-    let start = at-loop .before .before .before .before .before in
-    tabled _ _ _ _ (start .pre .0) _ (at-loop .loop .inv .0 .stage) (c .before .if1 .left)
-
-instruction-at-requires : tie.Need-instruction-at-requires Inv-loop μ-loop
-instruction-at-requires c κs = search needs
-
-enum-known-i : tie.Need-enum-known-i Inv-loop μ-loop
-enum-known-i c = search needs
+enum-known-next : tie.Need-enum-known-next Inv-loop μ-loop
+enum-known-next c = search needs
 
 same-length-2 : tie.Need-same-length-2 Inv-loop μ-loop
-same-length-2 c =
-    let at-loop = c .before .before .before .before .before in
-    at-loop .loop .inv .1
+same-length-2 c = c .before .before .before .loop .inv .1
 
 returns-2 : tie.Need-returns-2 Inv-loop μ-loop
 returns-2 c =
-    let at-if1 = c .before .before .before in
+    let at-if1 = c .before in
     let at-loop = at-if1 .before .before in
     let start = at-loop .before .before .before .before .before in
-    no-other _ _ _ _ (start .pre .0) _ (at-loop .loop .inv .0 .stage) (at-if1 .if1 .left) _ (c .before .instruction-at .ensures)
-    (c .match .keys2)
+    let waits = at-if1 .if1 .left in
+    no-other _ _ _ _ (start .pre .0) _ (at-loop .loop .inv .0 .stage) waits _ (at-loop .loop .inv .2 waits) (c .match .keys2)
 
 visit-replies-requires : tie.Need-visit-replies-requires Inv-loop μ-loop
 visit-replies-requires c κs =
-    let at-i = c .before .before in
-    let at-instruction-at = at-i .before .before in
-    let at-if1 = at-instruction-at .before .before in
+    let at-next = c .before .before in
+    let at-if1 = at-next .before .before in
     let at-loop = at-if1 .before .before in
     let start = at-loop .before .before .before .before .before in
-    let i = at-loop .loop .inv in (
+    let i = at-loop .loop .inv in let waits = at-if1 .if1 .left in (
       grounds-at (i .1) (start .pre .0),
-      (
-        i .0 .formed,
-        decoded-as _ _ _ _ (start .pre .0) _ (i .0 .stage) (at-if1 .if1 .left) _ (at-instruction-at .instruction-at .ensures) _
-            (at-i .i .given .1),
-      ),
+      (i .0 .formed, decoded-as _ _ _ _ (start .pre .0) _ (i .0 .stage) waits _ (i .2 waits) _ (at-next .next .given .1)),
     )
 
 loop-less : tie.Need-loop-less Inv-loop μ-loop
 loop-less c =
     let at-visit-replies = c .before .before .before in
-    let at-loop-test = at-visit-replies .before .before .before .before .before .before .before .before in
-    omega (arith, at-loop-test .loop-test .taken, at-visit-replies .visit-replies .ensures .1 (at-loop-test .loop-test .taken))
+    let at-loop-test = at-visit-replies .before .before .before .before .before .before in
+    omega (arith, at-loop-test .loop-test .taken, at-visit-replies .visit-replies .ensures .1 .0 (at-loop-test .loop-test .taken))
 
 loop-again : tie.Need-loop-again Inv-loop μ-loop
 loop-again c =
     let at-visit-replies = c .before .before .before in
-    let at-loop = at-visit-replies .before .before .before .before .before .before .before .before .before in (
-      moves-on _ _ (at-loop .loop .inv .0) (at-visit-replies .visit-replies .ensures .0),
+    let at-loop = at-visit-replies .before .before .before .before .before .before .before in
+    let visited = at-visit-replies .visit-replies .ensures in (
+      moves-on _ _ (at-loop .loop .inv .0) (visited .0),
       at-visit-replies .visit-replies .kept .1 .1 .1 .1 .1 .0 ∙ at-loop .loop .inv .1,
+      visited .1 .1,
     )
 
 same-length-3 : tie.Need-same-length-3 Inv-loop μ-loop
@@ -106,10 +85,7 @@ run-replies-spec =
     loop-holds
     same-length
     returns
-    mul-instruction-at
-    shared-slice-read-instruction-at
-    instruction-at-requires
-    enum-known-i
+    enum-known-next
     same-length-2
     returns-2
     visit-replies-requires

@@ -77,7 +77,7 @@ slice-aggregate-run-replies c = search needs
 
 run-replies-requires : tie.Need-run-replies-requires
 run-replies-requires c κs =
-    let at-run-on = c .before .before .before .before in
+    let at-run-on = c .before .before .before .before .before in
     let at-zero-record = at-run-on .before .before in
     let at-if1 = at-zero-record .before .before .before in
     let at-is-row-formed = at-if1 .before in
@@ -90,10 +90,13 @@ run-replies-requires c κs =
       grounds-at (at-run-on .run-on .kept .1 .1 .1 .1 .1 .0)
           (grounds _ (start .args .incoming .now) (start .args .outgoing .now) (start .args .row .now) _ _ _ x),
       (
-        formed-start _ (sym (at-is-row-formed .is-row-formed .ensures) ∙ not-false _ (at-if1 .if1 .left)),
-        start-stage _
-            (start .args .incoming .now) (start .args .outgoing .now) (start .args .row .now) _ _ _ x _ _ _ (at-zero-record .zero-record .ensures)
-            (at-run-on .run-on .ensures),
+        (
+          formed-start _ (sym (at-is-row-formed .is-row-formed .ensures) ∙ not-false _ (at-if1 .if1 .left)),
+          start-stage _
+              (start .args .incoming .now) (start .args .outgoing .now) (start .args .row .now) _ _ _ x _ _ _ (at-zero-record .zero-record .ensures)
+              (at-run-on .run-on .ensures .0),
+        ),
+        λ waits. at-run-on .run-on .ensures .1,
       ),
     )
 
@@ -103,7 +106,7 @@ same-length c = search needs
 returns-3 : tie.Need-returns-3
 returns-3 c =
     let at-run-replies = c .before .before .before .before in
-    let at-run-on = at-run-replies .before .before .before .before .before in
+    let at-run-on = at-run-replies .before .before .before .before .before .before in
     let at-zero-record = at-run-on .before .before in
     let at-if1 = at-zero-record .before .before .before in
     let at-is-row-formed = at-if1 .before in
@@ -113,7 +116,7 @@ returns-3 c =
     let start = at-shared-slice-known .before in
     let x = prepared-ready _ _ _ _ (at-prepare .prepare .ensures .0) _ (at-prepare .prepare .ensures .1) _ (at-prepared .prepared .given .1)
     (λ i. omega (arith, at-shared-slice-known .shared-slice-known .given i)) (at-prepare .prepare .kept .1 .0) in
-    whole-run _ _ _ (start .args .row .now) _ _ _ x _ _ _ (at-zero-record .zero-record .ensures) (at-run-on .run-on .ensures)
+    whole-run _ _ _ (start .args .row .now) _ _ _ x _ _ _ (at-zero-record .zero-record .ensures) (at-run-on .run-on .ensures .0)
     (sym (not-false _ (at-if1 .if1 .left)) ∙ at-is-row-formed .is-row-formed .ensures) _ _ _ (at-run-replies .run-replies .ensures)
 
 pub run-row-spec : {M : Type 1} → statement M

@@ -10,7 +10,7 @@ use Rattle.rows.specs.Row.{Stays}
 use Rattle.rows.specs.Quiet.{waitedOn}
 use Rattle.rows.proofs.RowLaws.{formed-here}
 use Rattle.rows.proofs.WordsAhead.{grounds-sound, ahead}
-use Rattle.rows.proofs.VisitTurn.{stays-here, stays-on, stays-moves, stays-stage, passes, grounds-at, ready}
+use Rattle.rows.proofs.VisitTurn.{stays-here, stays-on, stays-moves, stays-stage, passes, grounds-at, ready, next-here}
 use Rattle.rows.proofs.QuietTurn.{stays-as, rules-own, few, word-taken, wait-taken}
 use Rattle.rows.proofs.visit_replies.Statement.{statement}
 use Rattle.rows.proofs.visit_replies.Tie as tie
@@ -168,13 +168,17 @@ returns c =
     let at-take-reply = c .before .before in
     let at-loop = at-take-reply .before .before .before .before .before .before .before .before in
     let i = at-loop .loop .inv in let taken = at-take-reply .take-reply .ensures in
-    (stays-moves _ _ _ (i .0) (taken .0), λ h. omega (arith, i .1, taken .1))
+    (stays-moves _ _ _ (i .0) (taken .0), (λ h. omega (arith, i .1, taken .1 .0), taken .1 .1))
 
 same-length-2 : tie.Need-same-length-2 Inv-loop μ-loop
 same-length-2 c = c .before .loop .inv .2
 
 returns-2 : tie.Need-returns-2 Inv-loop μ-loop
-returns-2 c = (stays-stage _ _ _ (c .before .loop .inv .0), λ h. omega (arith, h, c .loop-test .left))
+returns-2 c =
+    let at-loop = c .before in
+    let start = at-loop .before .before .before .before .before .before in
+    let x = at-loop .loop .inv .0 in
+    (stays-stage _ _ _ x, (λ h. omega (arith, h, c .loop-test .left), next-here _ _ _ _ (start .pre .0) _ _ (x .alive)))
 
 pub visit-replies-spec : {M : Type 1} → statement M
 visit-replies-spec =
