@@ -1,9 +1,8 @@
 -- An answer that is no cause, before the last word, leaves the same operation waiting: its status bits are those of its flags, and record and
 -- buffer are what code makes of it. It is no cause where its flags are none by themselves, a scan has a next place and repeat another try.
-use Prim.Native.Nat.{ℕ, _+_, _-_, _*_, _/_, _%_, _≤_, _<_}
+use Prim.Native.Nat.{ℕ, _+_, _-_, _%_, _≤_, _<_}
 use mathlib.Core.Path.{_≡_, refl, sym, ap, _∙_, subst}
-use mathlib.Core.Logic.{_⊎_, inl, inr}
-use mathlib.Core.Bool.{Bool, true, false, _&&_, _||_, not, false≢true, true≢false}
+use mathlib.Core.Bool.{Bool, true, false, _||_, not, true≢false}
 use mathlib.Core.List.{List}
 use mathlib.Core.Option.{some}
 use native.Mathlib.Omega.{arith}
@@ -13,14 +12,13 @@ use lib.Dec.{eqb, ltb}
 use lib.ListN.{getD, take, drop}
 use Rattle.camac.specs.Checks.{if_then_else_}
 use Rattle.camac.specs.Words.{qmodeOf, directionOf}
-use Rattle.camac.specs.Scan.{afterAnswer, afterDone, afterOther}
+use Rattle.camac.specs.Scan.{afterDone, afterOther}
 use Rattle.camac.specs.declared.QMode.{QMode}
 use Rattle.camac.specs.declared.QMode.the-variants.{Stop, Ignore, Repeat, Scan}
 use Rattle.camac.specs.declared.Command.{Command}
 use Rattle.camac.specs.declared.Direction.{Direction}
 use Rattle.camac.specs.declared.Direction.the-variants.{Incoming, Outgoing, Neither}
 use Rattle.camac.specs.declared.ScanPosition.{ScanPosition}
-use Rattle.listfile.specs.Bytes.{byteAt}
 use Rattle.packing.specs.Packing.{markAfter}
 use Rattle.packing.specs.declared.Marks.{Marks}
 use Rattle.walk.specs.Walk.{movedBy, moved}
@@ -37,7 +35,7 @@ use Rattle.run.proofs.TestFacts.{on}
 use Rattle.run.proofs.CodeCases.{code-0}
 use Rattle.run.proofs.ReplyFacts.{piece-byte, piece-first, answer-read, reply-answer}
 use Rattle.rows.specs.Row.{isNoScan, wordIn}
-use Rattle.rows.specs.Quiet.{answerBy, bitsBy, flagBits, rulesOf, NoCause, Quiet, Judged, movedOn, waitedOn, wordStored}
+use Rattle.rows.specs.Quiet.{answerBy, flagBits, rulesOf, NoCause, Quiet, Judged, movedOn, waitedOn, wordStored}
 use Rattle.rows.specs.declared.Rules.{Rules}
 use Rattle.rows.specs.declared.Effect.the-variants.{Word, Wait, Other}
 use Rattle.rows.proofs.Flags.{not-true, Fine, flags-fine, flags-done}

@@ -29,7 +29,7 @@ use Rattle.run.specs.declared.Taken.{Taken}
 use Rattle.run.specs.declared.Taken.the-variants.{Same, Through, Ended}
 use Rattle.bound.proofs.Admitted.{SoundPlan}
 use Rattle.engine.specs.Onward.{Going, recordIn, GoingBy}
-use Rattle.engine.proofs.PlanLaws.{ready-here, going-next, on-next, command-at, in-table}
+use Rattle.engine.proofs.PlanLaws.{ready-here, going-next, on-next, command-at}
 use Rattle.rows.specs.Row.{rowFrom, FormedFrom, Grounds, Stage, Alive, Stays, Moves, Next, Stretch}
 use Rattle.rows.proofs.RowLaws.{formed-here, row-turn}
 use Rattle.rows.proofs.TakeTurn.{ended-over, through-last, stage-alive, alive-waits, took, took-stage, took-same}
@@ -150,9 +150,6 @@ module _ (list table : List ℕ) (s : Sizes) (room : ℕ) (g : Grounds list tabl
     (waits : r .ended ≡ false) where
   here : (c : Command) × Alive (planBy list s) c r
   here = stage-alive (planBy list s) (grounds-sound list table s room g) r st waits
-
-  pub tabled : r .instruction < length table
-  tabled = in-table list table s (g .counts) room (g .outgoing) (g .prepared) r (here .0) (here .1 .rest) (here .1 .waits)
 
   -- what the table has is the instruction at which the record waits
   pub decoded : (i : Instruction) → i ≡ instructionAt list (getD table (r .instruction) 0)

@@ -1,13 +1,11 @@
 -- Answers that are no cause, before the last word of their instruction, as code judges them by their flags. Nothing here is a rule of document 01:
 -- the laws of QuietRow join these definitions to those that are.
-use Prim.Native.Nat.{ℕ, _+_, _-_, _*_, _/_, _%_, _≤_, _<_}
+use Prim.Native.Nat.{ℕ, _+_, _-_, _/_, _%_, _<_}
 use mathlib.Core.Path.{_≡_}
 use mathlib.Core.Bool.{Bool, true, false, _||_, not}
 use mathlib.Core.List.{List, [], _∷_}
-use mathlib.Core.Option.{some}
 use lib.Bits.{bitOr}
 use lib.Dec.{eqb}
-use lib.ListN.{take, drop}
 use Rattle.camac.specs.Checks.{if_then_else_}
 use Rattle.camac.specs.Words.{qmodeOf, directionOf}
 use Rattle.camac.specs.declared.QMode.{QMode}
@@ -17,7 +15,6 @@ use Rattle.camac.specs.declared.Direction.{Direction}
 use Rattle.camac.specs.declared.Direction.the-variants.{Incoming, Outgoing, Neither}
 use Rattle.packing.specs.Packing.{stored}
 use Rattle.walk.specs.Walk.{movedBy}
-use Rattle.run.specs.Replies.{replyOf}
 use Rattle.run.specs.Causes.{done, spent, parityError, scanLeaves, noX, noQInStop}
 use Rattle.run.specs.Status.{_sets_, bitsOf}
 use Rattle.run.specs.Effect.{noteAfter, triesAfter, positionAfter}

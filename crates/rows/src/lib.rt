@@ -63,6 +63,8 @@ pub enum Effect {
     Other,
 }
 
+// The row -------------------------------------------------------------------------------------------------------------
+
 // Whether a row has only replies, to its end.
 pub fn is_row_formed(row: &[u8]) -> bool
     ensures { λ b. ⌜ b ≡ allFormed (repliesIn (now (row .entry))) ⌝ }
@@ -77,6 +79,8 @@ pub fn is_row_formed(row: &[u8]) -> bool
     }
     count * 8 == row.len()
 }
+
+// Clean answers -------------------------------------------------------------------------------------------------------
 
 // Whether the reply at a place has Q = X = 1 and no other flag, so that it is an answer: other kinds have no flags.
 fn is_clean_at(row: &[u8], at: usize) -> bool
@@ -302,6 +306,8 @@ fn is_no_scan(c: Command) -> bool
     }
 }
 
+// Answers judged by their flags ---------------------------------------------------------------------------------------
+
 fn unless_ad(ad: bool, flags: u8) -> u8
     ensures { λ r. ⌜ (r ≡ unlessAd ad flags) × (r ≤ flags) ⌝ }
 {
@@ -504,6 +510,8 @@ fn waited_on(rules: Rules, bits: u32, r: Record) -> Record
     }
 }
 
+// Visits --------------------------------------------------------------------------------------------------------------
+
 // The word of the quiet answer at a place, and the clean answers behind it.
 fn take_word(
     rules: Rules,
@@ -612,6 +620,8 @@ fn visit_replies(
         next: Instruction::Camac(c),
     }
 }
+
+// The whole run -------------------------------------------------------------------------------------------------------
 
 // The replies of a row, up to the end of the run. `start` is the instruction at which the first record waits.
 fn run_replies(

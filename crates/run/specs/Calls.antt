@@ -7,13 +7,11 @@ use lib.Dec.{leb, eqb}
 use lib.ListN.{length, take, drop}
 use Rattle.camac.specs.Checks.{if_then_else_}
 use Rattle.camac.specs.Words.{addressOf, isWrite}
-use Rattle.camac.specs.declared.Address.{Address}
 use Rattle.camac.specs.declared.Command.{Command}
 use Rattle.camac.specs.declared.Transfer.{Transfer}
 use Rattle.camac.specs.declared.Transfer.the-variants.{Single, Block, Inline}
 use Rattle.packing.specs.Packing.{wordAt}
 use Rattle.listfile.specs.declared.Refusal.{Refusal}
-use Rattle.listfile.specs.declared.Instruction.{Instruction}
 use Rattle.listfile.specs.declared.Instruction.the-variants.{Camac, Jump, Literal, Halt}
 use Rattle.walk.specs.Walk.{Visit, onFrom, noMarks}
 use Rattle.walk.specs.Admission.{Plan, Prepared, unfit, ready, prepare}

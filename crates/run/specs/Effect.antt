@@ -1,6 +1,6 @@
 -- What a reply does to the record and the incoming buffer, and the run along the walk to the next operation or the end (document 01,
 -- "One operation, one reply", "Packing", "The calls").
-use Prim.Native.Nat.{ℕ, zero, suc, _+_, _-_, _*_, _%_, _^_}
+use Prim.Native.Nat.{ℕ, _+_, _*_, _%_, _^_}
 use mathlib.Core.Bool.{Bool, true, false, _&&_}
 use mathlib.Core.List.{List, [], _∷_}
 use lib.Dec.{eqb}
@@ -18,12 +18,10 @@ use Rattle.camac.specs.declared.Moved.{Moved}
 use Rattle.camac.specs.declared.Moved.the-variants.{At, RanOff}
 use Rattle.packing.specs.Packing.{alignedMark, widthOf, stored}
 use Rattle.packing.specs.declared.Marks.{Marks}
-use Rattle.listfile.specs.declared.Instruction.{Instruction}
 use Rattle.listfile.specs.declared.Instruction.the-variants.{Camac, Jump, Literal, Halt}
 use Rattle.walk.specs.Walk.{Visit, movedBy, moved}
 use Rattle.run.specs.Causes.{doneBy, leftAfter, causesOf, onlyNine}
 use Rattle.run.specs.Status.{flagsOf}
-use Rattle.run.specs.declared.Answer.{Answer}
 use Rattle.run.specs.declared.Reply.{Reply}
 use Rattle.run.specs.declared.Reply.the-variants.{Answered, Timeout, NotRecognised, NoSync}
 use Rattle.run.specs.declared.Note.{Note}

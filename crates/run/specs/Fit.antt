@@ -1,6 +1,6 @@
 -- A record fits the list (document 01, "The calls", its paragraph on fit; refusal 23).
 use Prim.Native.Nat.{ℕ, _+_, _-_, _*_, min}
-use mathlib.Core.Bool.{Bool, true, false, _&&_, _||_, not}
+use mathlib.Core.Bool.{Bool, false, _&&_, _||_, not}
 use mathlib.Core.List.{List, [], _∷_}
 use lib.Dec.{leb, ltb, eqb}
 use lib.Bits.{bitAnd}
@@ -12,7 +12,6 @@ use Rattle.camac.specs.declared.QMode.the-variants.{Stop, Ignore, Repeat, Scan}
 use Rattle.camac.specs.declared.Command.{Command}
 use Rattle.camac.specs.declared.ScanPosition.{ScanPosition}
 use Rattle.packing.specs.declared.Marks.{Marks}
-use Rattle.listfile.specs.declared.Instruction.{Instruction}
 use Rattle.listfile.specs.declared.Instruction.the-variants.{Camac, Jump, Literal, Halt}
 use Rattle.walk.specs.Walk.{Visit, upTo, onFrom, noMarks, movedWords, marksOver}
 use Rattle.walk.specs.Worst.{worstOver}

@@ -1,13 +1,12 @@
 -- The status word (document 01, "Status"; the driver manual's "Control/Status Register").
 use Prim.Native.Nat.{ℕ, _/_, _^_}
-use mathlib.Core.Bool.{Bool, true, false, _||_, not}
+use mathlib.Core.Bool.{Bool, true, _||_, not}
 use mathlib.Core.List.{List, [], _∷_}
 use lib.Bits.{bitOr}
 use Rattle.camac.specs.Checks.{if_then_else_}
 use Rattle.camac.specs.Words.{qmodeOf}
 use Rattle.camac.specs.declared.Command.{Command}
 use Rattle.run.specs.Causes.{spent, scanLeaves}
-use Rattle.run.specs.declared.Answer.{Answer}
 use Rattle.run.specs.declared.Reply.{Reply}
 use Rattle.run.specs.declared.Reply.the-variants.{Answered, Timeout, NotRecognised, NoSync}
 use Rattle.run.specs.declared.Record.{Record}

@@ -106,6 +106,8 @@ pub enum Advance {
     At(Record),
 }
 
+// Replies -------------------------------------------------------------------------------------------------------------
+
 fn extended(x: u8) -> u32
     ensures { λ r. ⌜ (r ≡ x) × (r < 256) ⌝ }
 {
@@ -180,6 +182,8 @@ pub fn reply_of(bytes: &[u8]) -> Formed
     }
     Formed::NotFormed
 }
+
+// Causes --------------------------------------------------------------------------------------------------------------
 
 pub fn is_done(q: QMode, a: Answer) -> bool
     ensures { λ r. ⌜ r ≡ done q a ⌝ }
@@ -324,6 +328,8 @@ pub fn code_of(limit: usize, c: Command, r: Record, reply: Reply) -> u32
     }
 }
 
+// Status --------------------------------------------------------------------------------------------------------------
+
 fn bit_of(b: bool, value: u32) -> u32
     ensures { λ r. ⌜ r ≡ (if b then value else 0) ⌝ }
 {
@@ -367,6 +373,8 @@ pub fn flags_of(limit: usize, c: Command, r: Record, reply: Reply) -> u32
         Reply::NoSync => 16777216,
     }
 }
+
+// Records -------------------------------------------------------------------------------------------------------------
 
 // All zero but for `ended`.
 pub fn zero_record(ended: bool) -> Record
@@ -622,6 +630,8 @@ pub fn position_after(q: QMode, moves: bool, p: ScanPosition) -> ScanPosition
     }
 }
 
+// One reply -----------------------------------------------------------------------------------------------------------
+
 // One reply at one operation. A record that fits an admitted list is ready.
 pub fn take_here(limit: usize, c: Command, reply: Reply, run: Record, incoming: &mut [u8]) -> Taken
     requires { ⌜ Ready c run (now incoming) ⌝ }
@@ -659,6 +669,8 @@ pub fn take_here(limit: usize, c: Command, reply: Reply, run: Record, incoming: 
     Taken::Ended(ended_at(run.instruction, code, after))
 }
 
+// One visit of the walk -----------------------------------------------------------------------------------------------
+
 fn target_of(t: u16) -> usize
     ensures { λ r. ⌜ r ≡ t ⌝ }
 {
@@ -686,6 +698,8 @@ pub fn advance_by(i: Instruction, k: usize, r: Record, incoming: &mut [u8]) -> A
         Instruction::Halt => Advance::At(ended_at(k, 0, r)),
     }
 }
+
+// Fit -----------------------------------------------------------------------------------------------------------------
 
 // The most a scan can still make, `rest` being the most after it. Words and sum are an admitted list's.
 fn most_of_scan(p: ScanPosition, left: u64, rest: u64) -> u64
@@ -885,6 +899,8 @@ pub fn fits_at(limit: usize, worst: u64, c: Command, m: Marks, rest: u64, r: Rec
     note_fits(r.note, marks)
 }
 
+// The operation wanted ------------------------------------------------------------------------------------------------
+
 pub fn no_operation() -> Operation
     ensures { λ r. ⌜ r ≡ noOperation ⌝ }
 {
@@ -938,6 +954,8 @@ pub fn operation_of(c: Command, r: Record, outgoing: &[u8]) -> Operation
         word: word_wanted(t, c.wide, marks.outgoing, outgoing),
     }
 }
+
+// The last moved word -------------------------------------------------------------------------------------------------
 
 // The note's part of a buffer, empty where it lies outside.
 fn part_of(bytes: &[u8], note: Note) -> &[u8]
