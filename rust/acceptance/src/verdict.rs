@@ -160,12 +160,13 @@ fn is_malformed(report: &Report) -> bool {
     !report.automatic && !is_in_proofs(report)
 }
 
-/// A proof that speaks of another text than the one at hand: a name or a need that is no
-/// longer there, one that is new, or one of another kind.
+/// A proof that speaks of another text than the one at hand: a name, a need or a place that
+/// is no longer there, one that is new, or one of another kind.
 fn is_misfit(report: &Report) -> bool {
     let signs = [
         "is not in scope",
         "that can be named from here",
+        "has no field",
         "expected a type, but",
     ];
     let has_sign = signs.iter().any(|sign| report.message.contains(sign));
@@ -226,9 +227,11 @@ mod tests {
     #[test]
     fn a_file_that_no_longer_fits() {
         let gone = "/x/proofs/f/Proof.antt:7:14: error: `a`: `tie.Need-a`: module `T` has no `Need-a` that can be named from here\n/x/proofs/f/Proof.antt:9:1: error: `returns`: `search`: no proof\n";
-        assert!(!judged(gone).is_fact());
         let more = "/x/proofs/f/Proof.antt:14:26: error: `f-spec`: expected type `lts.Closed ?0`, but this has type `tie.Need-a → lts.Closed ?1`\n";
-        assert!(!judged(more).is_fact());
+        let shifted = "/x/proofs/f/Proof.antt:9:25: error: `returns`: record `f.Lts.After-a` has no field `args`\n";
+        for log in [gone, more, shifted] {
+            assert!(!judged(log).is_fact(), "{log}");
+        }
         let other = format!("{gone}/x/proofs/g/Proof.antt:3:1: error: `returns`: `omega`: no\n");
         assert_eq!(
             fact(&other).as_deref(),

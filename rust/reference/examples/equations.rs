@@ -3,7 +3,7 @@
 //! as `bound/proofs/Cases` has one. Not part of the gate: a case costs some milliseconds, and lists here are kept small.
 use reference::cases::{case, records::step_case};
 use reference::record::Record;
-use reference::run::{run_row, start, step, Answer};
+use reference::run::{run_row, start, Answer};
 
 /// Lists, buffers and rows of more bytes than these cost too much to compute.
 const MOST_LIST: usize = 80;
@@ -73,8 +73,7 @@ fn steps(seed: u64, number: u64) {
     {
         return;
     }
-    let mut incoming = c.incoming.clone();
-    let answer = step(&c.list, &c.record, &mut incoming, &c.outgoing, &c.reply);
+    let (answer, incoming) = c.stepped();
     let call = format!(
         "stepOf ({}) (stateOf ({}) ({}) ({})) ({})",
         bytes(&c.list),

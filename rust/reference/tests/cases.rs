@@ -109,14 +109,7 @@ fn the_whole_run_equals_start_and_steps() {
 fn refusals_change_nothing() {
     for number in 0..CASES {
         let case = records::step_case(SEED, number);
-        let mut incoming = case.incoming.clone();
-        let answer = step(
-            &case.list,
-            &case.record,
-            &mut incoming,
-            &case.outgoing,
-            &case.reply,
-        );
+        let (answer, incoming) = case.stepped();
         if answer.refusal.is_some() {
             assert_eq!(answer.record, case.record);
             assert_eq!(answer.wanted, Operation::default());

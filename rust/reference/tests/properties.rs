@@ -143,14 +143,7 @@ fn fit_is_closed_under_taken_steps() {
     for number in 0..CASES {
         let case = step_case(5, number);
         let lengths = (case.incoming.len() as u64, case.outgoing.len() as u64);
-        let mut incoming = case.incoming.clone();
-        let answer = step(
-            &case.list,
-            &case.record,
-            &mut incoming,
-            &case.outgoing,
-            &case.reply,
-        );
+        let (answer, _) = case.stepped();
         if answer.refusal.is_some() {
             continue;
         }

@@ -184,6 +184,11 @@ fn records_that_do_not_fit() {
     ));
     let block = [list("20 02 00 02 00"), block[7..].to_vec()].concat();
     let fine = waiting_record(&block);
+    let with = |change: fn(&mut Record)| {
+        let mut record = fine;
+        change(&mut record);
+        record
+    };
     let note = |buffer, offset, length| Record {
         note: Note {
             buffer,
@@ -197,19 +202,10 @@ fn records_that_do_not_fit() {
         [0, 2, 1, 1, 6, 0, 4, 0, 3, 0x1_0000, 0, 0, 4]
     );
     for fitting in [
-        Record {
-            operations: 0,
-            ..fine
-        },
-        Record { tries: 2, ..fine },
-        Record {
-            status: 0x04B7_0000,
-            ..fine
-        },
-        Record {
-            status: 1 << 18,
-            ..fine
-        },
+        with(|r| r.operations = 0),
+        with(|r| r.tries = 2),
+        with(|r| r.status = 0x04B7_0000),
+        with(|r| r.status = 1 << 18),
         note(0, 0, 0),
         note(0, 0, 2),
         note(0, 1, 2),
@@ -218,77 +214,26 @@ fn records_that_do_not_fit() {
         assert_eq!(step_refusal(&block, &fitting, &ok(0)), None, "{fitting:?}");
     }
     for unfit in [
-        Record {
-            instruction: 0,
-            ..fine
-        },
-        Record {
-            instruction: 1,
-            ..fine
-        },
-        Record {
-            instruction: 3,
-            ..fine
-        },
-        Record {
-            instruction: 4,
-            ..fine
-        },
-        Record {
-            instruction: u64::MAX,
-            ..fine
-        },
-        Record {
-            words_left: 0,
-            ..fine
-        },
-        Record {
-            words_left: 2,
-            ..fine
-        },
-        Record {
-            words_left: 3,
-            ..fine
-        },
-        Record {
-            words_left: u64::MAX,
-            ..fine
-        },
-        Record { tries: 3, ..fine },
-        Record { n: 7, ..fine },
-        Record { a: 1, ..fine },
-        Record {
-            incoming_mark: 6,
-            ..fine
-        },
-        Record {
-            outgoing_mark: 2,
-            ..fine
-        },
-        Record {
-            operations: 5,
-            ..fine
-        },
-        Record {
-            operations: u64::MAX,
-            ..fine
-        },
-        Record {
-            status: 1 << 7,
-            ..fine
-        },
-        Record {
-            status: 1 << 19,
-            ..fine
-        },
-        Record {
-            status: 1 << 22,
-            ..fine
-        },
-        Record {
-            status: 1 << 28,
-            ..fine
-        },
+        with(|r| r.instruction = 0),
+        with(|r| r.instruction = 1),
+        with(|r| r.instruction = 3),
+        with(|r| r.instruction = 4),
+        with(|r| r.instruction = u64::MAX),
+        with(|r| r.words_left = 0),
+        with(|r| r.words_left = 2),
+        with(|r| r.words_left = 3),
+        with(|r| r.words_left = u64::MAX),
+        with(|r| r.tries = 3),
+        with(|r| r.n = 7),
+        with(|r| r.a = 1),
+        with(|r| r.incoming_mark = 6),
+        with(|r| r.outgoing_mark = 2),
+        with(|r| r.operations = 5),
+        with(|r| r.operations = u64::MAX),
+        with(|r| r.status = 1 << 7),
+        with(|r| r.status = 1 << 19),
+        with(|r| r.status = 1 << 22),
+        with(|r| r.status = 1 << 28),
         note(0, 0, 1),
         note(0, 0, 3),
         note(0, 1, 4),

@@ -1,5 +1,6 @@
 -- `step_planned` is `stepPrepared`: each return is one case of 24, 23, 22 and the reply taken.
-use mathlib.Core.Path.{sym, ap, _∙_}
+use mathlib.Core.Path.{_≡_, sym, ap, _∙_}
+use mathlib.Core.Bool.{true}
 use native.Mathlib.Omega.{arith}
 use borrow.Author.Tests.{not-true, not-false}
 use borrow.Author.Needs.{needs}
@@ -15,7 +16,8 @@ refuse-by-requires c κs = search needs
 returns : tie.Need-returns
 returns c =
     let at-start = c .before .before .before .before .before .before .before in
-    yields _ _ _ _ _ _ _ (c .refuse-by .ensures) (step-24 _ _ _ _ _ _ (at-start .pre) _ _ (c .before .if1 .taken))
+    let over : at-start .args .r .ended ≡ true = search needs in
+    yields _ _ _ _ _ _ _ (c .refuse-by .ensures) (step-24 _ _ _ _ _ _ (at-start .pre) _ _ over)
 
 find-requires : tie.Need-find-requires
 find-requires c κs =

@@ -10,7 +10,7 @@ use crate::packing;
 use crate::record::Record;
 use crate::refusal::Refusal;
 use crate::reply::{self, Reply};
-use crate::run::{begin, current_camac, step, take};
+use crate::run::{begin, current_camac, take};
 use crate::status;
 use crate::walk::{admission, Admitted};
 use crate::words::{Camac, Direction, QMode, Transfer};
@@ -205,14 +205,7 @@ impl Coverage {
 
     /// Counts what a step case meets.
     pub fn observe_step(&mut self, case: &StepCase) {
-        let mut incoming = case.incoming.clone();
-        let answer = step(
-            &case.list,
-            &case.record,
-            &mut incoming,
-            &case.outgoing,
-            &case.reply,
-        );
+        let (answer, _) = case.stepped();
         if let Some(Refusal { number, .. }) = answer.refusal {
             return self.met(Event::Refusal(number));
         }

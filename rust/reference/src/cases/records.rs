@@ -5,6 +5,7 @@ use super::{lists, rows};
 use crate::fit::{fits, most_still_possible};
 use crate::list::Instruction;
 use crate::record::{Note, Record};
+use crate::run::{step, Answer};
 use crate::scan::Position;
 use crate::status;
 use crate::walk::{admission, marks_before, Admitted};
@@ -18,6 +19,21 @@ pub struct StepCase {
     pub incoming: Vec<u8>,
     pub outgoing: Vec<u8>,
     pub reply: Vec<u8>,
+}
+
+impl StepCase {
+    /// What the step answers, and the incoming buffer after it.
+    pub fn stepped(&self) -> (Answer, Vec<u8>) {
+        let mut incoming = self.incoming.clone();
+        let answer = step(
+            &self.list,
+            &self.record,
+            &mut incoming,
+            &self.outgoing,
+            &self.reply,
+        );
+        (answer, incoming)
+    }
 }
 
 /// Step case `number` of a seed.
