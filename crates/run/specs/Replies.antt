@@ -66,3 +66,10 @@ repliesIn row = cutRow (length row) row
 unfoldable pub allFormed : List (List ℕ) → Bool
 allFormed [] = true
 allFormed (r ∷ rs) = if isFormed r then allFormed rs else false
+
+-- document 01's number of a reply's kind
+abbrev pub kindOf : Reply → ℕ
+kindOf (Answered a) = 0
+kindOf Timeout = 1
+kindOf NotRecognised = 2
+kindOf NoSync = 3
