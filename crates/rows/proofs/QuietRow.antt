@@ -1,12 +1,12 @@
--- An answer that is no cause, before the last word, leaves the same operation waiting: its status bits are those of its flags, and record and
+-- An answer that is no cause leaves the same operation waiting, or its last word through: its status bits are those of its flags, and record and
 -- buffer are what code makes of it. It is no cause where its flags are none by themselves, a scan has a next place and repeat another try.
 use Prim.Native.Nat.{ℕ, _+_, _-_, _%_, _≤_, _<_}
 use mathlib.Core.Path.{_≡_, refl, sym, ap, _∙_, subst}
-use mathlib.Core.Bool.{Bool, true, false, _||_, not, true≢false}
+use mathlib.Core.Bool.{Bool, true, false, _&&_, _||_, not, true≢false}
 use mathlib.Core.List.{List}
 use mathlib.Core.Option.{some}
 use native.Mathlib.Omega.{arith}
-use borrow.Author.Tests.{ne-eqb}
+use borrow.Author.Tests.{eq-eqb, ne-eqb, eqb-true, eqb-false}
 use lib.Bits.{bitAnd, bitOr, or-zero-l}
 use lib.Dec.{eqb, ltb}
 use lib.ListN.{getD, take, drop}
@@ -30,14 +30,15 @@ use Rattle.run.specs.Here.{onRun, hereRun, hereBuffer}
 use Rattle.run.specs.declared.Answer.{Answer}
 use Rattle.run.specs.declared.Reply.the-variants.{Answered}
 use Rattle.run.specs.declared.Record.{Record}
-use Rattle.run.specs.declared.Taken.the-variants.{Same}
+use Rattle.run.specs.declared.Taken.the-variants.{Same, Through}
 use Rattle.run.proofs.TestFacts.{on}
 use Rattle.run.proofs.CodeCases.{code-0}
 use Rattle.run.proofs.ReplyFacts.{piece-byte, piece-first, answer-read, reply-answer}
 use Rattle.rows.specs.Row.{isNoScan, wordIn}
-use Rattle.rows.specs.Quiet.{answerBy, flagBits, rulesOf, NoCause, Quiet, Judged, movedOn, waitedOn, wordStored}
+use Rattle.rows.specs.Quiet.{answerBy, flagBits, rulesOf, NoCause, Quiet, wordEffect, Judged, movedOn, movedLast, waitedOn, wordStored}
 use Rattle.rows.specs.declared.Rules.{Rules}
-use Rattle.rows.specs.declared.Effect.the-variants.{Word, Wait, Other}
+use Rattle.rows.specs.declared.Effect.{Effect}
+use Rattle.rows.specs.declared.Effect.the-variants.{Word, Last, Wait, Other}
 use Rattle.rows.proofs.Flags.{not-true, Fine, flags-fine, flags-done}
 
 -- When an answer is no cause ---------------------------------------------------------------------------------------------
@@ -45,6 +46,10 @@ use Rattle.rows.proofs.Flags.{not-true, Fine, flags-fine, flags-done}
 or-second : (a b : Bool) → a ≡ false → (a || b) ≡ true → b ≡ true
 or-second true b h e = absurd (true≢false h)
 or-second false b h e = e
+
+and-false : (a : Bool) → a && false ≡ false
+and-false true = refl
+and-false false = refl
 
 -- a scan that has a next place does not leave
 other-stays : (p : ScanPosition) → ltb (p .station) 23 ≡ true → ranOff (afterOther p) ≡ false
@@ -64,6 +69,13 @@ module _ (a : Answer) (p : ScanPosition) (left : ℕ) where
   word-stays Ignore d h = refl
   word-stays Repeat d h = refl
   word-stays Scan d h = rw (d, done-stays p h)
+
+  last-stays : (q : QMode) → done q a ≡ true → left ≡ 1 → scanLeaves q a p left ≡ false
+  unfolding leaves
+  last-stays Stop d h = refl
+  last-stays Ignore d h = refl
+  last-stays Repeat d h = refl
+  last-stays Scan d h = rw (d, h) (and-false (ranOff (afterDone p)))
 
   wait-stays : (q : QMode) (b : Bool) → done q a ≡ false → (if isNoScan q then b else ltb (p .station) 23) ≡ true
       → scanLeaves q a p left ≡ false
@@ -113,6 +125,13 @@ module _ (limit : ℕ) (c : Command) (r : Record) (f word : ℕ) (rules : Rules)
       let u = word-unspent limit (answerBy f word) (r .tries) (qmodeOf (c .transfer)) d in
       (no-cause u (word-stays (answerBy f word) (r .position) (r .left) (qmodeOf (c .transfer)) d n), d)
 
+  last-told : eqb (bitAnd f (rules .done)) (rules .done) ≡ true → r .left ≡ 1
+      → NoCause limit c r (answerBy f word) × (done (qmodeOf (c .transfer)) (answerBy f word) ≡ true)
+  last-told h one =
+      let d = done-told true h in
+      let u = word-unspent limit (answerBy f word) (r .tries) (qmodeOf (c .transfer)) d in
+      (no-cause u (last-stays (answerBy f word) (r .position) (r .left) (qmodeOf (c .transfer)) d one), d)
+
   wait-told : eqb (bitAnd f (rules .done)) (rules .done) ≡ false
       → (if rules .steady then not (eqb (r .tries + 1) (rules .limit)) else ltb (r .position .station) 23) ≡ true
       → NoCause limit c r (answerBy f word) × (done (qmodeOf (c .transfer)) (answerBy f word) ≡ false)
@@ -124,41 +143,67 @@ module _ (limit : ℕ) (c : Command) (r : Record) (f word : ℕ) (rules : Rules)
       let s = wait-stays (answerBy f word) (r .position) (r .left) (qmodeOf (c .transfer)) (not (eqb (r .tries + 1) limit)) d n in
       (no-cause u s, d)
 
-module _ (rules : Rules) (kind f : ℕ) (r : Record) (answer : kind ≡ 0) (more : ¬ (r .left ≡ 1))
-    (judged : eqb (bitAnd f (rules .mask)) (rules .want) ≡ true) where
-  by-word : eqb (bitAnd f (rules .done)) (rules .done) ≡ true
-      → (rules .steady || (ltb (r .position .subaddress) 15 || ltb (r .position .station) 23)) ≡ true → Quiet rules kind f r true
-  by-word h next = record {
-    answer = answer;
-    more = more;
-    noCause = λ limit c word e few. word-told limit c r f word rules e few judged h next .0;
-    isDone = λ limit c word e few. word-told limit c r f word rules e few judged h next .1;
+module _ (rules : Rules) (kind f : ℕ) (r : Record) where
+  pub judged-other : Judged rules kind f r Other
+  judged-other = record {
+    word = λ e. let z : _≡_ {A = ℕ} 0 1 = cc in absurd (omega arith);
+    last = λ e. let z : _≡_ {A = ℕ} 0 1 = cc in absurd (omega arith);
+    wait = λ e. let z : _≡_ {A = ℕ} 0 1 = cc in absurd (omega arith);
   }
 
-  by-wait : eqb (bitAnd f (rules .done)) (rules .done) ≡ false
-      → (if rules .steady then not (eqb (r .tries + 1) (rules .limit)) else ltb (r .position .station) 23) ≡ true → Quiet rules kind f r false
-  by-wait h next = record {
-    answer = answer;
-    more = more;
-    noCause = λ limit c word e few. wait-told limit c r f word rules e few judged h next .0;
-    isDone = λ limit c word e few. wait-told limit c r f word rules e few judged h next .1;
-  }
+  module _ (answer : kind ≡ 0) (judged : eqb (bitAnd f (rules .mask)) (rules .want) ≡ true) where
+    judged-word : eqb (bitAnd f (rules .done)) (rules .done) ≡ true → ¬ (r .left ≡ 1)
+        → (rules .steady || (ltb (r .position .subaddress) 15 || ltb (r .position .station) 23)) ≡ true → Judged rules kind f r Word
+    judged-word h more next = record {
+      word = λ e. (
+        more,
+        record {
+          answer = answer;
+          noCause = λ limit c word e few. word-told limit c r f word rules e few judged h next .0;
+          done-is = λ limit c word e few. word-told limit c r f word rules e few judged h next .1;
+        },
+      );
+      last = λ e. let z : _≡_ {A = ℕ} 0 1 = cc in absurd (omega arith);
+      wait = λ e. let z : _≡_ {A = ℕ} 0 1 = cc in absurd (omega arith);
+    }
 
-  pub judged-word : eqb (bitAnd f (rules .done)) (rules .done) ≡ true
-      → (rules .steady || (ltb (r .position .subaddress) 15 || ltb (r .position .station) 23)) ≡ true → Judged rules kind f r Word
-  judged-word h next =
-      record { word = λ e. by-word h next; wait = λ e. let z : _≡_ {A = ℕ} 0 1 = cc in absurd (omega arith) }
+    judged-last : eqb (bitAnd f (rules .done)) (rules .done) ≡ true → r .left ≡ 1 → Judged rules kind f r Last
+    judged-last h one = record {
+      word = λ e. let z : _≡_ {A = ℕ} 0 1 = cc in absurd (omega arith);
+      last = λ e. (
+        one,
+        record {
+          answer = answer;
+          noCause = λ limit c word e few. last-told limit c r f word rules e few judged h one .0;
+          done-is = λ limit c word e few. last-told limit c r f word rules e few judged h one .1;
+        },
+      );
+      wait = λ e. let z : _≡_ {A = ℕ} 0 1 = cc in absurd (omega arith);
+    }
 
-  pub judged-wait : eqb (bitAnd f (rules .done)) (rules .done) ≡ false
-      → (if rules .steady then not (eqb (r .tries + 1) (rules .limit)) else ltb (r .position .station) 23) ≡ true → Judged rules kind f r Wait
-  judged-wait h next =
-      record { word = λ e. let z : _≡_ {A = ℕ} 0 1 = cc in absurd (omega arith); wait = λ e. by-wait h next }
+    -- a done word by its effect
+    pub judged-done : eqb (bitAnd f (rules .done)) (rules .done) ≡ true → (e : Effect) → e ≡ wordEffect (rules .steady) (r .left) (r .position)
+        → Judged rules kind f r e
+    judged-done h e same =
+        subst (Judged rules kind f r) (sym same)
+        (on (eqb (r .left) 1)
+        (λ one. rw one (judged-last h (eqb-true (r .left) 1 one)))
+        (λ more. rw more (on (rules .steady || (ltb (r .position .subaddress) 15 || ltb (r .position .station) 23))
+        (λ next. rw next (judged-word h (eqb-false (r .left) 1 more) next))
+        (λ none. rw none judged-other))))
 
-pub judged-other : (rules : Rules) (kind f : ℕ) (r : Record) → Judged rules kind f r Other
-judged-other rules kind f r = record {
-  word = λ e. let z : _≡_ {A = ℕ} 0 1 = cc in absurd (omega arith);
-  wait = λ e. let z : _≡_ {A = ℕ} 0 1 = cc in absurd (omega arith);
-}
+    pub judged-wait : eqb (bitAnd f (rules .done)) (rules .done) ≡ false
+        → (if rules .steady then not (eqb (r .tries + 1) (rules .limit)) else ltb (r .position .station) 23) ≡ true
+        → Judged rules kind f r Wait
+    judged-wait h next = record {
+      word = λ e. let z : _≡_ {A = ℕ} 0 1 = cc in absurd (omega arith);
+      last = λ e. let z : _≡_ {A = ℕ} 0 1 = cc in absurd (omega arith);
+      wait = λ e. record {
+        answer = answer;
+        noCause = λ limit c word e few. wait-told limit c r f word rules e few judged h next .0;
+        done-is = λ limit c word e few. wait-told limit c r f word rules e few judged h next .1;
+      };
+    }
 
 -- Its status bits and code -----------------------------------------------------------------------------------------------
 
@@ -201,6 +246,26 @@ module _ (limit : ℕ) (c : Command) (r : Record) (f word : ℕ) (n : NoCause li
     unfolding hereRun onRun
     quiet-word more h =
         ap (λ (x : Rules). Same (movedOn x (flagBits f) r)) e ∙ sym (rw (code, h, ne-eqb (r .left) 1 more) (ap Same moved-next))
+
+    last-next : movedRecord c (counted limit c (Answered (answerBy f word)) r) ≡ movedLast (rulesOf limit c) (flagBits f) r
+    unfolding movedRecord counted movedLast rulesOf moved
+    last-next = λ i. record {
+      ended = r .ended;
+      instruction = r .instruction;
+      left = r .left;
+      tries = r .tries;
+      position = r .position;
+      marks = moved c (r .marks);
+      operations = r .operations + 1;
+      status = bitOr (r .status) (bits i);
+      note = note-same (directionOf (c .transfer)) i;
+    }
+
+    pub quiet-last : r .left ≡ 1 → done (qmodeOf (c .transfer)) (answerBy f word) ≡ true
+        → Through (movedLast rules (flagBits f) r) ≡ hereRun limit c (Answered (answerBy f word)) r
+    unfolding hereRun onRun
+    quiet-last one h =
+        ap (λ (x : Rules). Through (movedLast x (flagBits f) r)) e ∙ sym (rw (code, h, eq-eqb (r .left) 1 one) (ap Through last-next))
 
     waited-next :
         waiting (r .left) (triesAfter (qmodeOf (c .transfer)) false (r .tries)) (positionAfter (qmodeOf (c .transfer)) false (r .position))

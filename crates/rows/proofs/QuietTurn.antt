@@ -1,30 +1,39 @@
 -- A quiet answer of the row taken at a record that waits: the same instruction waits behind it, with the record and the bytes that code makes.
-use Prim.Native.Nat.{ℕ, _+_, _<_}
+use Prim.Native.Nat.{ℕ, _+_, _%_, _<_}
 use mathlib.Core.Path.{_≡_, refl, sym, ap, _∙_, subst}
-use mathlib.Core.Bool.{true, false, false≢true}
+use mathlib.Core.Bool.{Bool, true, false, false≢true}
 use mathlib.Core.List.{List}
 use native.Mathlib.Omega.{arith}
 use borrow.Author.Tests.{ltb-true}
 use lib.Dec.{eqb}
 use lib.ListN.{length, getD, take, drop}
 use Rattle.camac.specs.declared.Command.{Command}
+use Rattle.camac.specs.declared.Direction.{Direction}
+use Rattle.camac.specs.declared.Direction.the-variants.{Incoming, Outgoing, Neither}
 use Rattle.camac.proofs.Bools.{and-left, and-right}
+use Rattle.packing.proofs.MarkFacts.{stored-length}
 use Rattle.listfile.specs.Bytes.{byteAt}
 use Rattle.listfile.specs.declared.Sizes.{Sizes}
+use Rattle.walk.specs.Walk.{Visit}
 use Rattle.walk.specs.Admission.{Plan}
-use Rattle.walk.specs.Sums.{planBy}
+use Rattle.walk.specs.Sums.{restFrom, planBy}
 use Rattle.run.specs.Replies.{replyOf, isFormed, hasForm}
+use Rattle.run.specs.Effect.{runOn}
+use Rattle.run.specs.Calls.{stateOf}
+use Rattle.run.specs.Here.{hereRun, hereBuffer}
 use Rattle.run.specs.declared.Reply.the-variants.{Answered}
 use Rattle.run.specs.declared.Record.{Record}
-use Rattle.run.specs.declared.Taken.the-variants.{Same}
+use Rattle.run.specs.declared.Taken.the-variants.{Same, Through}
 use Rattle.run.proofs.TestFacts.{on}
 use Rattle.run.proofs.ReplyFacts.{piece-byte}
-use Rattle.rows.specs.Row.{FormedFrom, Grounds, Alive, Stays, wordIn, Ahead, Stretch}
-use Rattle.rows.specs.Quiet.{answerBy, flagBits, rulesOf, Quiet, movedOn, waitedOn, wordStored}
+use Rattle.engine.specs.Onward.{Going}
+use Rattle.rows.specs.Row.{FormedFrom, Grounds, Alive, Stays, Moves, wordIn, Ahead, Stretch}
+use Rattle.rows.specs.Quiet.{answerBy, flagBits, rulesOf, Quiet, movedOn, movedLast, waitedOn, wordStored, LastReady}
 use Rattle.rows.specs.declared.Rules.{Rules}
 use Rattle.rows.proofs.RowLaws.{FormedHere, formed-here}
-use Rattle.rows.proofs.VisitTurn.{stays}
-use Rattle.rows.proofs.QuietRow.{quiet-word, quiet-wait, wait-buffer, word-buffer, stored-word, quiet-reply}
+use Rattle.rows.proofs.WordsAhead.{ahead}
+use Rattle.rows.proofs.VisitTurn.{ready, going, stays, moves}
+use Rattle.rows.proofs.QuietRow.{word-room, quiet-word, quiet-last, quiet-wait, wait-buffer, word-buffer, stored-word, quiet-reply}
 
 -- the flags of formed bytes are six bits
 few-flags : (bytes : List ℕ) → isFormed bytes ≡ true → byteAt bytes 1 < 64
@@ -53,6 +62,24 @@ pub stays-as : {p : Plan} {c : Command} {row : List ℕ} {r r′ r″ : Record} 
     → Stays p c row r from b r′ at b′ → Stays p c row r from b r″ at b′
 stays-as {p} {c} {row} {r} {from = from} {at = at} {b = b} {b′ = b′} e x = subst (λ (y : Record). Stays p c row r from b y at b′) (sym e) x
 
+pub going-as : {list : List ℕ} {count k : ℕ} {r r′ : Record} {b b′ : List ℕ} → r ≡ r′ → b ≡ b′ → Going list count k r′ b′
+    → Going list count k r b
+going-as {list} {count} {k} {b = b} {b′ = b′} er eb x =
+    subst (λ (y : Record). Going list count k y b) (sym er) (subst (Going list count k _) (sym eb) x)
+
+pub on-as : (vs : List Visit) {r r′ last : Record} {b b′ end : List ℕ} → r ≡ r′ → b ≡ b′
+    → ((out : List ℕ) → stateOf last end out ≡ runOn vs (stateOf r b out)) → (out : List ℕ) → stateOf last end out ≡ runOn vs (stateOf r′ b′ out)
+on-as vs er eb x out = x out ∙ (λ i. runOn vs (stateOf (er i) (eb i) out))
+
+pub moves-to : {p : Plan} {row : List ℕ} {r r′ : Record} {from at at′ : ℕ} {b b′ : List ℕ} → at′ ≡ at
+    → Moves p row r from b r′ at b′ → Moves p row r from b r′ at′ b′
+moves-to {p} {row} {r} {r′} {from} {b = b} {b′ = b′} e x = subst (λ (y : ℕ). Moves p row r from b r′ y b′) (sym e) x
+
+word-length : (d : Direction) (wide : Bool) (row : List ℕ) (at mark : ℕ) (b : List ℕ) → length (wordStored d wide row at mark b) ≡ length b
+word-length Incoming wide row at mark b = stored-length wide (wordIn row at % 16777216) mark b
+word-length Outgoing wide row at mark b = refl
+word-length Neither wide row at mark b = refl
+
 pub rules-own : (limit : ℕ) (c : Command) (rules : Rules) → rules ≡ rulesOf limit c → rules ≡ rulesOf (rules .limit) c
 unfolding rulesOf
 rules-own limit c rules e = e ∙ ap (λ (l : ℕ). rulesOf l c) (sym (ap (λ (x : Rules). x .limit) e))
@@ -66,24 +93,66 @@ module _ (list table : List ℕ) (s : Sizes) (room : ℕ) (g : Grounds list tabl
   pub few : getD row (at + 1) 0 < 64
   few = subst (λ (n : ℕ). n < 64) (piece-byte row at 1 (omega arith)) (few-flags (take 8 (drop at row)) (here .formed))
 
-  pub word-taken : Quiet rules (getD row at 0) (getD row (at + 1) 0) r true
+  pub word-taken : (¬ (r .left ≡ 1)) × Quiet rules (getD row at 0) (getD row (at + 1) 0) r true
       → Stays (planBy list s) c row r at b (movedOn rules (flagBits (getD row (at + 1) 0)) r) (at + 8)
       (wordStored (rules .direction) (rules .wide) row at (r .marks .incoming) b)
-  word-taken x =
+  word-taken (more, x) =
       let n = x .noCause (s .limit) c (wordIn row at) er few in
-      let d = x .isDone (s .limit) c (wordIn row at) er few in
+      let d = x .done-is (s .limit) c (wordIn row at) er few in
       stays list table s room g c r al (Answered (answerBy (getD row (at + 1) 0) (wordIn row at))) b _
       (stored-word (s .limit) c row at (r .marks .incoming) b rules er ∙ word-buffer (s .limit) c r (getD row (at + 1) 0) (wordIn row at) n b d)
       (Same (movedOn rules (flagBits (getD row (at + 1) 0)) r))
-      (quiet-word (s .limit) c r (getD row (at + 1) 0) (wordIn row at) n rules er (x .more) d)
+      (quiet-word (s .limit) c r (getD row (at + 1) 0) (wordIn row at) n rules er more d)
       row at f h (quiet-reply row at _ (here .formed) (x .answer) refl) _ refl
 
   pub wait-taken : Quiet rules (getD row at 0) (getD row (at + 1) 0) r false
       → Stays (planBy list s) c row r at b (waitedOn rules (flagBits (getD row (at + 1) 0)) r) (at + 8) b
   wait-taken x =
       let n = x .noCause (s .limit) c (wordIn row at) er few in
-      let d = x .isDone (s .limit) c (wordIn row at) er few in
+      let d = x .done-is (s .limit) c (wordIn row at) er few in
       stays list table s room g c r al (Answered (answerBy (getD row (at + 1) 0) (wordIn row at))) b b
       (wait-buffer (s .limit) c r (getD row (at + 1) 0) (wordIn row at) n rules er b d)
       (Same (waitedOn rules (flagBits (getD row (at + 1) 0)) r)) (quiet-wait (s .limit) c r (getD row (at + 1) 0) (wordIn row at) n rules er d)
       row at f h (quiet-reply row at _ (here .formed) (x .answer) refl) _ refl
+
+  module _ (one : r .left ≡ 1) (x : Quiet rules (getD row at 0) (getD row (at + 1) 0) r true) where
+    abbrev moved : Record
+    moved = movedLast rules (flagBits (getD row (at + 1) 0)) r
+
+    abbrev bytes : List ℕ
+    bytes = wordStored (rules .direction) (rules .wide) row at (r .marks .incoming) b
+
+    run : Through moved ≡ hereRun (s .limit) c (Answered (answerBy (getD row (at + 1) 0) (wordIn row at))) r
+    run = quiet-last (s .limit) c r (getD row (at + 1) 0) (wordIn row at) (x .noCause (s .limit) c (wordIn row at) er few) rules er one
+        (x .done-is (s .limit) c (wordIn row at) er few)
+
+    buffer : bytes ≡ hereBuffer (s .limit) c (Answered (answerBy (getD row (at + 1) 0) (wordIn row at))) r b
+    buffer = stored-word (s .limit) c row at (r .marks .incoming) b rules er
+        ∙ word-buffer (s .limit) c r (getD row (at + 1) 0) (wordIn row at) (x .noCause (s .limit) c (wordIn row at) er few) b
+        (x .done-is (s .limit) c (wordIn row at) er few)
+
+    -- behind the last word the walk goes on
+    last-going : length bytes ≡ room → Going list (s .count) (r .instruction + 1) moved bytes
+    unfolding movedLast
+    last-going e = going list table s room g c r al _ b bytes buffer (Through moved) run e
+
+    pub last-ready : length b ≡ room → LastReady list table (s .count) rules (flagBits (getD row (at + 1) 0)) r row at b
+    last-ready e =
+        let a = ahead list table s room g c r al b e in record {
+          entries = omega (arith, g .prepared .entries, g .prepared .planned .few);
+          few = g .prepared .planned .few;
+          right = g .prepared .planned .right;
+          going = last-going (word-length (rules .direction) (rules .wide) row at (r .marks .incoming) b ∙ e);
+          room = omega (arith, word-room (s .limit) c rules er (r .marks), ready list table s room g c r al b e .room);
+          operations = omega (arith, a .operations);
+          incoming = omega (arith, a .incoming);
+          outgoing = omega (arith, a .outgoing);
+        }
+
+    pub last-taken : (next : Record) (b″ : List ℕ)
+        → ((out : List ℕ) → stateOf next b″ out ≡ runOn (restFrom list (s .count) (r .instruction + 1)) (stateOf moved bytes out))
+        → Moves (planBy list s) row r at b next (at + 8) b″
+    unfolding movedLast
+    last-taken next b″ goes =
+        moves list table s room g c r al _ b bytes buffer (Through moved) run row at f h
+        (quiet-reply row at _ (here .formed) (x .answer) refl) next b″ goes

@@ -1,11 +1,12 @@
 -- Answers that are no cause, before the last word of their instruction, as code judges them by their flags. Nothing here is a rule of document 01:
 -- the laws of QuietRow join these definitions to those that are.
-use Prim.Native.Nat.{ℕ, _+_, _-_, _/_, _%_, _<_}
+use Prim.Native.Nat.{ℕ, _+_, _-_, _/_, _%_, _≤_, _<_}
 use mathlib.Core.Path.{_≡_}
 use mathlib.Core.Bool.{Bool, true, false, _||_, not}
 use mathlib.Core.List.{List, [], _∷_}
 use lib.Bits.{bitOr}
-use lib.Dec.{eqb}
+use lib.Dec.{eqb, ltb}
+use lib.ListN.{length}
 use Rattle.camac.specs.Checks.{if_then_else_}
 use Rattle.camac.specs.Words.{qmodeOf, directionOf}
 use Rattle.camac.specs.declared.QMode.{QMode}
@@ -13,17 +14,20 @@ use Rattle.camac.specs.declared.QMode.the-variants.{Stop, Ignore, Repeat, Scan}
 use Rattle.camac.specs.declared.Command.{Command}
 use Rattle.camac.specs.declared.Direction.{Direction}
 use Rattle.camac.specs.declared.Direction.the-variants.{Incoming, Outgoing, Neither}
+use Rattle.camac.specs.declared.ScanPosition.{ScanPosition}
 use Rattle.packing.specs.Packing.{stored}
+use Rattle.listfile.specs.Table.{TableRight}
 use Rattle.walk.specs.Walk.{movedBy}
 use Rattle.run.specs.Causes.{done, spent, parityError, scanLeaves, noX, noQInStop}
 use Rattle.run.specs.Status.{_sets_, bitsOf}
 use Rattle.run.specs.Effect.{noteAfter, triesAfter, positionAfter}
 use Rattle.run.specs.declared.Answer.{Answer}
 use Rattle.run.specs.declared.Record.{Record}
+use Rattle.engine.specs.Onward.{Going}
 use Rattle.rows.specs.Row.{isNoScan, wordIn}
 use Rattle.rows.specs.declared.Rules.{Rules}
 use Rattle.rows.specs.declared.Effect.{Effect}
-use Rattle.rows.specs.declared.Effect.the-variants.{Word, Wait}
+use Rattle.rows.specs.declared.Effect.the-variants.{Word, Last, Wait, Other}
 
 -- Flags ------------------------------------------------------------------------------------------------------------------
 
@@ -94,17 +98,22 @@ pub record NoCause (limit : ℕ) (c : Command) (r : Record) (a : Answer) : Type 
   pub x : noX (qmodeOf (c .transfer)) (c .ad) a ≡ false
   pub q : noQInStop (qmodeOf (c .transfer)) a ≡ false
 
--- an answer that is no cause, before the last word; `moves` says whether its word is done
-pub record Quiet (rules : Rules) (kind flags : ℕ) (r : Record) (moves : Bool) : Type 0 where
+-- an answer that is no cause; `isDone` says whether its word is done
+pub record Quiet (rules : Rules) (kind flags : ℕ) (r : Record) (isDone : Bool) : Type 0 where
   pub answer : kind ≡ 0
-  pub more : ¬ (r .left ≡ 1)
   pub noCause : (limit : ℕ) (c : Command) (word : ℕ) → rules ≡ rulesOf limit c → flags < 64 → NoCause limit c r (answerBy flags word)
-  pub isDone : (limit : ℕ) (c : Command) (word : ℕ) → rules ≡ rulesOf limit c → flags < 64
-      → done (qmodeOf (c .transfer)) (answerBy flags word) ≡ moves
+  pub done-is : (limit : ℕ) (c : Command) (word : ℕ) → rules ≡ rulesOf limit c → flags < 64
+      → done (qmodeOf (c .transfer)) (answerBy flags word) ≡ isDone
+
+-- a done word that is no cause by its flags: the last, or one before it; a scan that has no place for the next is judged in full
+abbrev pub wordEffect : Bool → ℕ → ScanPosition → Effect
+wordEffect steady left p =
+    if eqb left 1 then Last else if steady || (ltb (p .subaddress) 15 || ltb (p .station) 23) then Word else Other
 
 -- what an effect says
 pub record Judged (rules : Rules) (kind flags : ℕ) (r : Record) (e : Effect) : Type 0 where
-  pub word : e ≡ Word → Quiet rules kind flags r true
+  pub word : e ≡ Word → (¬ (r .left ≡ 1)) × Quiet rules kind flags r true
+  pub last : e ≡ Last → (r .left ≡ 1) × Quiet rules kind flags r true
   pub wait : e ≡ Wait → Quiet rules kind flags r false
 
 -- What such an answer leaves -----------------------------------------------------------------------------------------------
@@ -117,6 +126,20 @@ movedOn rules bits r = record {
   left = r .left - 1;
   tries = triesAfter (rules .q) true (r .tries);
   position = positionAfter (rules .q) true (r .position);
+  marks = movedBy (rules .direction) (rules .wide) (r .marks);
+  operations = r .operations + 1;
+  status = bitOr (r .status) bits;
+  note = noteAfter (rules .direction) (rules .wide) r;
+}
+
+-- the record after the last word, before the walk goes on
+unfoldable pub movedLast : Rules → ℕ → Record → Record
+movedLast rules bits r = record {
+  ended = r .ended;
+  instruction = r .instruction;
+  left = r .left;
+  tries = r .tries;
+  position = r .position;
   marks = movedBy (rules .direction) (rules .wide) (r .marks);
   operations = r .operations + 1;
   status = bitOr (r .status) bits;
@@ -142,3 +165,16 @@ abbrev pub wordStored : Direction → Bool → List ℕ → ℕ → ℕ → List
 wordStored Incoming wide row at mark buffer = stored wide (wordIn row at % 16777216) mark buffer
 wordStored Outgoing wide row at mark buffer = buffer
 wordStored Neither wide row at mark buffer = buffer
+
+-- what the last word of an instruction needs
+pub record LastReady (list table : List ℕ) (count : ℕ) (rules : Rules) (bits : ℕ) (r : Record) (row : List ℕ) (at : ℕ)
+    (buffer : List ℕ) : Type 0 where
+  pub entries : count ≤ length table
+  pub few : count ≤ 4096
+  pub right : TableRight list table count
+  pub going : Going list count (r .instruction + 1) (movedLast rules bits r)
+      (wordStored (rules .direction) (rules .wide) row at (r .marks .incoming) buffer)
+  pub room : movedBy (rules .direction) (rules .wide) (record { incoming = r .marks .incoming; outgoing = 0 }) .incoming ≤ length buffer
+  pub operations : r .operations < 9223372036854775808
+  pub incoming : r .marks .incoming < 9223372036854775808
+  pub outgoing : r .marks .outgoing < 9223372036854775808

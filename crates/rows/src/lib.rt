@@ -23,11 +23,12 @@ ghost use Rattle.camac.specs.Words.{qmodeOf, directionOf};
 ghost use Rattle.packing.specs.Packing.{markAfterWords};
 ghost use Rattle.walk.specs.Walk.{movedBy, movedWords};
 ghost use Rattle.camac.specs.Checks.{if_then_else_};
-ghost use Rattle.walk.specs.Sums.{planBy};
+ghost use Rattle.walk.specs.Sums.{restFrom, planBy};
+ghost use Rattle.run.specs.Effect.{runOn};
 ghost use Rattle.run.specs.Here.{Ready};
 ghost use Rattle.run.specs.Replies.{repliesIn, allFormed};
 ghost use Rattle.run.specs.Calls.{refusedRecord, stateOf, runOf, ranOf};
-ghost use Rattle.rows.specs.Quiet.{unlessAd, judgedFlags, doneFlags, rulesOf, flagBits, Judged, movedOn, waitedOn, wordStored};
+ghost use Rattle.rows.specs.Quiet.{unlessAd, judgedFlags, doneFlags, rulesOf, flagBits, wordEffect, Judged, movedOn, movedLast, waitedOn, wordStored, LastReady};
 ghost use Rattle.rows.specs.Row.{rowFrom, stoppedAt, FormedFrom, Grounds, Stage, Alive, Moves, isNoScan, Clean, cleanStored, cleanBytes, noteBehind, NoteRoom, cleaned, Ahead, Stretch, wordIn, Next};
 
 // A record with the place of the row that it has come to.
@@ -56,9 +57,11 @@ pub struct Rules {
     pub done: u8,
 }
 
-// What an answer that is no cause does before the last word: its word moves, or the instruction waits on. Other answers are judged in full.
+// What an answer that is no cause does: its word moves, or it is the last word and the run goes on along the walk, or the instruction waits on.
+// Other replies are judged in full.
 pub enum Effect {
     Word,
+    Last,
     Wait,
     Other,
 }
@@ -409,6 +412,19 @@ fn has_next_try(rules: Rules, tries: usize, p: ScanPosition) -> bool
     p.station < 23
 }
 
+// The effect of a done word that is no cause by its flags.
+fn word_effect(steady: bool, left: usize, p: ScanPosition) -> Effect
+    ensures { λ e. ⌜ e ≡ wordEffect steady left p ⌝ }
+{
+    if left == 1 {
+        return Effect::Last;
+    }
+    if has_next_word(steady, p) {
+        return Effect::Word;
+    }
+    Effect::Other
+}
+
 fn effect_of(rules: Rules, kind: u8, flags: u8, r: Record) -> Effect
     requires { ⌜ r .tries < 65536 ⌝ }
     ensures { λ e. ⌜ Judged rules kind flags r e ⌝ }
@@ -417,17 +433,11 @@ fn effect_of(rules: Rules, kind: u8, flags: u8, r: Record) -> Effect
     if kind != 0 {
         return Effect::Other;
     }
-    if r.left == 1 {
-        return Effect::Other;
-    }
     if flags & rules.mask != rules.want {
         return Effect::Other;
     }
     if flags & rules.done == rules.done {
-        if has_next_word(rules.steady, p) {
-            return Effect::Word;
-        }
-        return Effect::Other;
+        return word_effect(rules.steady, r.left, p);
     }
     if has_next_try(rules, r.tries, p) {
         return Effect::Wait;
@@ -488,6 +498,29 @@ fn moved_on(rules: Rules, bits: u32, r: Record) -> Record
     }
 }
 
+// The record after the last word; what follows it on the walk sets words left, tries and position. Numbers are an admitted list's.
+fn moved_last(rules: Rules, bits: u32, r: Record) -> Record
+    requires { ⌜ (r .operations < 9223372036854775808)
+        × ((r .marks .incoming < 9223372036854775808) × (r .marks .outgoing < 9223372036854775808)) ⌝ }
+    ensures { λ x. ⌜ x ≡ movedLast rules bits r ⌝ }
+{
+    let direction = rules.direction;
+    let wide = rules.wide;
+    let position = r.position;
+    let marks = r.marks;
+    Record {
+        ended: r.ended,
+        instruction: r.instruction,
+        left: r.left,
+        tries: r.tries,
+        position: position,
+        marks: run::moved_marks(direction, wide, marks),
+        operations: r.operations + 1,
+        status: r.status | bits,
+        note: run::note_after(direction, wide, r),
+    }
+}
+
 // The record after an answer without a word. Numbers are an admitted list's.
 fn waited_on(rules: Rules, bits: u32, r: Record) -> Record
     requires { ⌜ (r .tries < 65536) × (r .operations < 9223372036854775808) ⌝ }
@@ -532,6 +565,37 @@ fn take_word(
     store_word(direction, rules.wide, marks.incoming, row, at, incoming);
     let moved = moved_on(rules, flag_bits(flags), r);
     pass_clean(rules.steady, c, moved, incoming, row, at + 8)
+}
+
+// The last word of an instruction, and on along the walk. The walk from the next instruction halts, and its bytes have room.
+fn take_last(
+    list: &[u8],
+    table: &[u16],
+    count: usize,
+    rules: Rules,
+    flags: u8,
+    r: Record,
+    incoming: &mut [u8],
+    row: &[u8],
+    at: usize,
+) -> Arrived
+    requires { ⌜ (at + 8 ≤ length (now row)) × ((flags < 64) × LastReady (now list) (now table) count rules (flagBits flags) r (now row) at (now incoming)) ⌝ }
+    ensures { λ v. ⌜ ((out : List ℕ) → stateOf (v .run) (now (incoming .exit)) out ≡ runOn (restFrom (now (list .entry)) count (r .instruction + 1))
+        (stateOf (movedLast rules (flagBits flags) r) (wordStored (rules .direction) (rules .wide) (now (row .entry)) at (r .marks .incoming) (now (incoming .entry))) out))
+        × ((v .at ≡ at + 8) × Next (now (list .entry)) (now (table .entry)) (v .run) (v .next)) ⌝ }
+{
+    let marks = r.marks;
+    let direction = rules.direction;
+    store_word(direction, rules.wide, marks.incoming, row, at, incoming);
+    let moved = moved_last(rules, flag_bits(flags), r);
+    let arrival = engine::run_on(list, table, count, r.instruction + 1, moved, incoming);
+    let next = arrival.instruction;
+    let last = arrival.run;
+    Arrived {
+        run: last,
+        at: at + 8,
+        next: next,
+    }
 }
 
 // The reply at a place taken, and on along the walk where its last word is through.
@@ -604,6 +668,19 @@ fn visit_replies(
                 let v = take_word(rules, c, flags, here, incoming, row, at);
                 here = v.run;
                 at = v.at;
+            }
+            Effect::Last => {
+                return take_last(
+                    list,
+                    table,
+                    sizes.count,
+                    rules,
+                    flags,
+                    here,
+                    incoming,
+                    row,
+                    at,
+                );
             }
             Effect::Wait => {
                 here = waited_on(rules, flag_bits(flags), here);

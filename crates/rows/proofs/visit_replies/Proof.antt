@@ -11,7 +11,7 @@ use Rattle.rows.specs.Quiet.{waitedOn}
 use Rattle.rows.proofs.RowLaws.{formed-here}
 use Rattle.rows.proofs.WordsAhead.{grounds-sound, ahead}
 use Rattle.rows.proofs.VisitTurn.{stays-here, stays-on, stays-moves, stays-stage, passes, grounds-at, ready, next-here}
-use Rattle.rows.proofs.QuietTurn.{stays-as, rules-own, few, word-taken, wait-taken}
+use Rattle.rows.proofs.QuietTurn.{stays-as, rules-own, few, word-taken, wait-taken, last-ready, last-taken, moves-to}
 use Rattle.rows.proofs.visit_replies.Statement.{statement}
 use Rattle.rows.proofs.visit_replies.Tie as tie
 
@@ -104,6 +104,50 @@ loop-again c =
 enum-told-2 : tie.Need-enum-told-2 Inv-loop μ-loop
 enum-told-2 c = search needs
 
+take-last-requires : tie.Need-take-last-requires Inv-loop μ-loop
+take-last-requires c κs =
+    let at-effect-of = c .before .before .before in
+    let at-test = at-effect-of .before .before .before in
+    let at-loop = at-test .before in
+    let at-rules-of = at-loop .before in
+    let g = at-rules-of .before .before .before .before .before .pre .0 in
+    let i = at-loop .loop .inv in
+    let al = i .0 .alive in
+    let f = i .0 .formed in
+    let h = at-test .loop-test .taken in
+    let rules = at-rules-of .rules-of .ensures in
+    let last = at-effect-of .effect-of .ensures .last (c .before .enum-told2 .given .1) in (
+      formed-here _ _ f h .eight,
+      (
+        few _ _ _ _ g _ _ al _ rules _ _ f h (at-loop .loop .incoming),
+        last-ready _ _ _ _ g _ _ al _ rules _ _ f h (at-loop .loop .incoming) (last .0) (last .1) (i .2),
+      ),
+    )
+
+same-length : tie.Need-same-length Inv-loop μ-loop
+same-length c =
+    let at-take-last = c .before .before in
+    let at-loop = at-take-last .before .before .before .before .before .before .before .before in
+    at-take-last .take-last .kept .1 .1 .1 .1 .1 .1 .0 ∙ at-loop .loop .inv .2
+
+returns : tie.Need-returns Inv-loop μ-loop
+returns c =
+    let at-take-last = c .before .before in
+    let at-told = at-take-last .before .before in
+    let at-effect-of = at-told .before .before in
+    let at-test = at-effect-of .before .before .before in
+    let at-loop = at-test .before in
+    let at-rules-of = at-loop .before in
+    let g = at-rules-of .before .before .before .before .before .pre .0 in
+    let i = at-loop .loop .inv in let taken = at-take-last .take-last .ensures in
+    let last = at-effect-of .effect-of .ensures .last (at-told .enum-told2 .given .1) in
+    let moves = last-taken _ _ _ _ g _ _ (i .0 .alive) _ (at-rules-of .rules-of .ensures) _ _ (i .0 .formed) (at-test .loop-test .taken)
+    (at-loop .loop .incoming) (last .0) (last .1) _ _ (taken .0) in
+    (stays-moves _ _ _ (i .0) (moves-to (taken .1 .0) moves), (λ h. omega (arith, i .1, taken .1 .0), taken .1 .1))
+
+enum-told-3 : tie.Need-enum-told-3 Inv-loop μ-loop
+enum-told-3 c = search needs
+
 flag-bits-requires : tie.Need-flag-bits-requires Inv-loop μ-loop
 flag-bits-requires c κs =
     let at-test = c .before .before .before .before .before in
@@ -140,15 +184,15 @@ loop-again-2 c =
     let at-rules-of = at-loop .before in
     let g = at-rules-of .before .before .before .before .before .pre .0 in
     let i = at-loop .loop .inv in
-    let wait = at-effect-of .effect-of .ensures .wait (at-told .enum-told2 .given .1) in
+    let wait = at-effect-of .effect-of .ensures .wait (at-told .enum-told3 .given .1) in
     let next = wait-taken _ _ _ _ g _ _ (i .0 .alive) _ (at-rules-of .rules-of .ensures) _ _ (i .0 .formed) (at-test .loop-test .taken)
     (at-loop .loop .incoming) wait in
     let same = c .waited-on .ensures
     ∙ ap (λ (n : ℕ). waitedOn (at-rules-of .rules-of .result) n (at-loop .loop .here)) (at-flag-bits .flag-bits .ensures) in
     (stays-on _ _ _ (i .0) (stays-as same next), omega (arith, i .1), i .2)
 
-enum-told-3 : tie.Need-enum-told-3 Inv-loop μ-loop
-enum-told-3 c = search needs
+enum-told-4 : tie.Need-enum-told-4 Inv-loop μ-loop
+enum-told-4 c = search needs
 
 take-reply-requires : tie.Need-take-reply-requires Inv-loop μ-loop
 take-reply-requires c κs =
@@ -157,24 +201,24 @@ take-reply-requires c κs =
     let start = at-loop .before .before .before .before .before .before in
     let i = at-loop .loop .inv in (grounds-at (i .2) (start .pre .0), ((i .0 .formed, at-test .loop-test .taken), i .0 .alive))
 
-same-length : tie.Need-same-length Inv-loop μ-loop
-same-length c =
+same-length-2 : tie.Need-same-length-2 Inv-loop μ-loop
+same-length-2 c =
     let at-take-reply = c .before .before in
     let at-loop = at-take-reply .before .before .before .before .before .before .before .before in
     at-take-reply .take-reply .kept .1 .1 .1 .1 .1 .0 ∙ at-loop .loop .inv .2
 
-returns : tie.Need-returns Inv-loop μ-loop
-returns c =
+returns-2 : tie.Need-returns-2 Inv-loop μ-loop
+returns-2 c =
     let at-take-reply = c .before .before in
     let at-loop = at-take-reply .before .before .before .before .before .before .before .before in
     let i = at-loop .loop .inv in let taken = at-take-reply .take-reply .ensures in
     (stays-moves _ _ _ (i .0) (taken .0), (λ h. omega (arith, i .1, taken .1 .0), taken .1 .1))
 
-same-length-2 : tie.Need-same-length-2 Inv-loop μ-loop
-same-length-2 c = c .before .loop .inv .2
+same-length-3 : tie.Need-same-length-3 Inv-loop μ-loop
+same-length-3 c = c .before .loop .inv .2
 
-returns-2 : tie.Need-returns-2 Inv-loop μ-loop
-returns-2 c =
+returns-3 : tie.Need-returns-3 Inv-loop μ-loop
+returns-3 c =
     let at-loop = c .before in
     let start = at-loop .before .before .before .before .before .before in
     let x = at-loop .loop .inv .0 in
@@ -197,14 +241,18 @@ visit-replies-spec =
     loop-less
     loop-again
     enum-told-2
+    take-last-requires
+    same-length
+    returns
+    enum-told-3
     flag-bits-requires
     waited-on-requires
     add-at
     loop-less-2
     loop-again-2
-    enum-told-3
+    enum-told-4
     take-reply-requires
-    same-length
-    returns
     same-length-2
-    returns-2)
+    returns-2
+    same-length-3
+    returns-3)
