@@ -6,7 +6,7 @@ use mathlib.Core.Bool.{Bool, true, false, _&&_, _||_, not, true≢false}
 use mathlib.Core.List.{List}
 use mathlib.Core.Option.{some}
 use native.Mathlib.Omega.{arith}
-use borrow.Author.Tests.{eq-eqb, ne-eqb, eqb-true, eqb-false}
+use borrow.Author.Tests.{eq-eqb, ne-eqb}
 use lib.Bits.{bitAnd, bitOr, or-zero-l}
 use lib.Dec.{eqb, ltb}
 use lib.ListN.{getD, take, drop}
@@ -35,9 +35,8 @@ use Rattle.run.proofs.TestFacts.{on}
 use Rattle.run.proofs.CodeCases.{code-0}
 use Rattle.run.proofs.ReplyFacts.{piece-byte, piece-first, answer-read, reply-answer}
 use Rattle.rows.specs.Row.{isNoScan, wordIn}
-use Rattle.rows.specs.Quiet.{answerBy, flagBits, rulesOf, NoCause, Quiet, wordEffect, Judged, movedOn, movedLast, waitedOn, wordStored}
+use Rattle.rows.specs.Quiet.{answerBy, flagBits, rulesOf, NoCause, Quiet, Judged, movedOn, movedLast, waitedOn, wordStored}
 use Rattle.rows.specs.declared.Rules.{Rules}
-use Rattle.rows.specs.declared.Effect.{Effect}
 use Rattle.rows.specs.declared.Effect.the-variants.{Word, Last, Wait, Other}
 use Rattle.rows.proofs.Flags.{not-true, Fine, flags-fine, flags-done}
 
@@ -152,7 +151,7 @@ module _ (rules : Rules) (kind f : ℕ) (r : Record) where
   }
 
   module _ (answer : kind ≡ 0) (judged : eqb (bitAnd f (rules .mask)) (rules .want) ≡ true) where
-    judged-word : eqb (bitAnd f (rules .done)) (rules .done) ≡ true → ¬ (r .left ≡ 1)
+    pub judged-word : eqb (bitAnd f (rules .done)) (rules .done) ≡ true → ¬ (r .left ≡ 1)
         → (rules .steady || (ltb (r .position .subaddress) 15 || ltb (r .position .station) 23)) ≡ true → Judged rules kind f r Word
     judged-word h more next = record {
       word = λ e. (
@@ -167,7 +166,7 @@ module _ (rules : Rules) (kind f : ℕ) (r : Record) where
       wait = λ e. let z : _≡_ {A = ℕ} 0 1 = cc in absurd (omega arith);
     }
 
-    judged-last : eqb (bitAnd f (rules .done)) (rules .done) ≡ true → r .left ≡ 1 → Judged rules kind f r Last
+    pub judged-last : eqb (bitAnd f (rules .done)) (rules .done) ≡ true → r .left ≡ 1 → Judged rules kind f r Last
     judged-last h one = record {
       word = λ e. let z : _≡_ {A = ℕ} 0 1 = cc in absurd (omega arith);
       last = λ e. (
@@ -180,17 +179,6 @@ module _ (rules : Rules) (kind f : ℕ) (r : Record) where
       );
       wait = λ e. let z : _≡_ {A = ℕ} 0 1 = cc in absurd (omega arith);
     }
-
-    -- a done word by its effect
-    pub judged-done : eqb (bitAnd f (rules .done)) (rules .done) ≡ true → (e : Effect) → e ≡ wordEffect (rules .steady) (r .left) (r .position)
-        → Judged rules kind f r e
-    judged-done h e same =
-        subst (Judged rules kind f r) (sym same)
-        (on (eqb (r .left) 1)
-        (λ one. rw one (judged-last h (eqb-true (r .left) 1 one)))
-        (λ more. rw more (on (rules .steady || (ltb (r .position .subaddress) 15 || ltb (r .position .station) 23))
-        (λ next. rw next (judged-word h (eqb-false (r .left) 1 more) next))
-        (λ none. rw none judged-other))))
 
     pub judged-wait : eqb (bitAnd f (rules .done)) (rules .done) ≡ false
         → (if rules .steady then not (eqb (r .tries + 1) (rules .limit)) else ltb (r .position .station) 23) ≡ true

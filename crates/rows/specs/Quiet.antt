@@ -5,7 +5,7 @@ use mathlib.Core.Path.{_≡_}
 use mathlib.Core.Bool.{Bool, true, false, _||_, not}
 use mathlib.Core.List.{List, [], _∷_}
 use lib.Bits.{bitOr}
-use lib.Dec.{eqb, ltb}
+use lib.Dec.{eqb}
 use lib.ListN.{length}
 use Rattle.camac.specs.Checks.{if_then_else_}
 use Rattle.camac.specs.Words.{qmodeOf, directionOf}
@@ -14,7 +14,6 @@ use Rattle.camac.specs.declared.QMode.the-variants.{Stop, Ignore, Repeat, Scan}
 use Rattle.camac.specs.declared.Command.{Command}
 use Rattle.camac.specs.declared.Direction.{Direction}
 use Rattle.camac.specs.declared.Direction.the-variants.{Incoming, Outgoing, Neither}
-use Rattle.camac.specs.declared.ScanPosition.{ScanPosition}
 use Rattle.packing.specs.Packing.{stored}
 use Rattle.listfile.specs.Table.{TableRight}
 use Rattle.walk.specs.Walk.{movedBy}
@@ -27,7 +26,7 @@ use Rattle.engine.specs.Onward.{Going}
 use Rattle.rows.specs.Row.{isNoScan, wordIn}
 use Rattle.rows.specs.declared.Rules.{Rules}
 use Rattle.rows.specs.declared.Effect.{Effect}
-use Rattle.rows.specs.declared.Effect.the-variants.{Word, Last, Wait, Other}
+use Rattle.rows.specs.declared.Effect.the-variants.{Word, Last, Wait}
 
 -- Flags ------------------------------------------------------------------------------------------------------------------
 
@@ -104,11 +103,6 @@ pub record Quiet (rules : Rules) (kind flags : ℕ) (r : Record) (isDone : Bool)
   pub noCause : (limit : ℕ) (c : Command) (word : ℕ) → rules ≡ rulesOf limit c → flags < 64 → NoCause limit c r (answerBy flags word)
   pub done-is : (limit : ℕ) (c : Command) (word : ℕ) → rules ≡ rulesOf limit c → flags < 64
       → done (qmodeOf (c .transfer)) (answerBy flags word) ≡ isDone
-
--- a done word that is no cause by its flags: the last, or one before it; a scan that has no place for the next is judged in full
-abbrev pub wordEffect : Bool → ℕ → ScanPosition → Effect
-wordEffect steady left p =
-    if eqb left 1 then Last else if steady || (ltb (p .subaddress) 15 || ltb (p .station) 23) then Word else Other
 
 -- what an effect says
 pub record Judged (rules : Rules) (kind flags : ℕ) (r : Record) (e : Effect) : Type 0 where

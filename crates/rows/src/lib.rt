@@ -28,7 +28,7 @@ ghost use Rattle.run.specs.Effect.{runOn};
 ghost use Rattle.run.specs.Here.{Ready};
 ghost use Rattle.run.specs.Replies.{repliesIn, allFormed};
 ghost use Rattle.run.specs.Calls.{refusedRecord, stateOf, runOf, ranOf};
-ghost use Rattle.rows.specs.Quiet.{unlessAd, judgedFlags, doneFlags, rulesOf, flagBits, wordEffect, Judged, movedOn, movedLast, waitedOn, wordStored, LastReady};
+ghost use Rattle.rows.specs.Quiet.{unlessAd, judgedFlags, doneFlags, rulesOf, flagBits, Judged, movedOn, movedLast, waitedOn, wordStored, LastReady};
 ghost use Rattle.rows.specs.Row.{rowFrom, stoppedAt, FormedFrom, Grounds, Stage, Alive, Moves, isNoScan, Clean, cleanStored, cleanBytes, noteBehind, NoteRoom, cleaned, Ahead, Stretch, wordIn, Next};
 
 // A record with the place of the row that it has come to.
@@ -412,19 +412,6 @@ fn has_next_try(rules: Rules, tries: usize, p: ScanPosition) -> bool
     p.station < 23
 }
 
-// The effect of a done word that is no cause by its flags.
-fn word_effect(steady: bool, left: usize, p: ScanPosition) -> Effect
-    ensures { λ e. ⌜ e ≡ wordEffect steady left p ⌝ }
-{
-    if left == 1 {
-        return Effect::Last;
-    }
-    if has_next_word(steady, p) {
-        return Effect::Word;
-    }
-    Effect::Other
-}
-
 fn effect_of(rules: Rules, kind: u8, flags: u8, r: Record) -> Effect
     requires { ⌜ r .tries < 65536 ⌝ }
     ensures { λ e. ⌜ Judged rules kind flags r e ⌝ }
@@ -437,7 +424,13 @@ fn effect_of(rules: Rules, kind: u8, flags: u8, r: Record) -> Effect
         return Effect::Other;
     }
     if flags & rules.done == rules.done {
-        return word_effect(rules.steady, r.left, p);
+        if r.left == 1 {
+            return Effect::Last;
+        }
+        if has_next_word(rules.steady, p) {
+            return Effect::Word;
+        }
+        return Effect::Other;
     }
     if has_next_try(rules, r.tries, p) {
         return Effect::Wait;
