@@ -538,7 +538,7 @@ fn waited_on(rules: Rules, bits: u32, r: Record) -> Record
 
 // Visits --------------------------------------------------------------------------------------------------------------
 
-// The word of the quiet answer at a place, and the clean answers behind it.
+// A quiet answer is no cause. Its word at a place, and the clean answers behind it.
 fn take_word(
     rules: Rules,
     c: Command,
