@@ -56,7 +56,7 @@ bytes-beyond Incoming wide word m buffer i h = stored-beyond wide word (m .incom
 bytes-beyond Outgoing wide word m buffer i h = refl
 bytes-beyond Neither wide word m buffer i h = refl
 
-bytes-length : (d : Direction) (wide : Bool) (word mark : ℕ) (buffer : List ℕ) → length (storedBy d wide word mark buffer) ≡ length buffer
+pub bytes-length : (d : Direction) (wide : Bool) (word mark : ℕ) (buffer : List ℕ) → length (storedBy d wide word mark buffer) ≡ length buffer
 bytes-length Incoming wide word mark buffer = stored-length wide word mark buffer
 bytes-length Outgoing wide word mark buffer = refl
 bytes-length Neither wide word mark buffer = refl

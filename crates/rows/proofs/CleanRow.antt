@@ -34,8 +34,7 @@ use Rattle.run.specs.declared.Reply.the-variants.{Answered}
 use Rattle.run.specs.declared.Note.{Note}
 use Rattle.run.specs.declared.Record.{Record}
 use Rattle.run.specs.declared.Taken.the-variants.{Same}
-use Rattle.run.proofs.TestFacts.{on}
-use Rattle.run.proofs.ReplyFacts.{piece-byte, answer-read, reply-answer}
+use Rattle.run.proofs.ReplyFacts.{piece-byte, formed-has-form, answer-read, reply-answer}
 use Rattle.run.proofs.FitCases.{words-incoming}
 use Rattle.bound.proofs.Admitted.{SoundPlan}
 use Rattle.rows.specs.Row.{rowFrom, FormedFrom, Alive, Stays, isNoScan, Clean, wordIn, cleanStored, cleanBytes, noteBehind, cleaned, Stretch}
@@ -120,13 +119,10 @@ unfolding replyOf hasForm
 answers bytes formed flagged = go
     (or-cases (eqb (byteAt bytes 0) 0) (eqb (byteAt bytes 1 + byteAt bytes 4 + byteAt bytes 5 + byteAt bytes 6) 0) last)
   where
-    form : hasForm bytes ≡ true
-    form = on (hasForm bytes) (λ e. e) (λ e. absurd (false≢true (rw e at formed)))
-
     last : (eqb (byteAt bytes 0) 0 || eqb (byteAt bytes 1 + byteAt bytes 4 + byteAt bytes 5 + byteAt bytes 6) 0) ≡ true
     last = and-left _ true
         (and-right (eqb (byteAt bytes 7) 0) _ (and-right (eqb (byteAt bytes 3) 0) _ (and-right (eqb (byteAt bytes 2) 0) _
-        (and-right (ltb (byteAt bytes 1) 64) _ (and-right (eqb (length bytes) 8) _ form)))))
+        (and-right (ltb (byteAt bytes 1) 64) _ (and-right (eqb (length bytes) 8) _ (formed-has-form bytes formed))))))
 
     go : (eqb (byteAt bytes 0) 0 ≡ true) ⊎ (eqb (byteAt bytes 1 + byteAt bytes 4 + byteAt bytes 5 + byteAt bytes 6) 0 ≡ true)
         → byteAt bytes 0 ≡ 0

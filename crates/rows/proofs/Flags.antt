@@ -3,7 +3,7 @@ use Prim.Native.Nat.{ℕ, zero, suc, _*_, _%_, _<_}
 use mathlib.Core.Path.{_≡_, refl, sym, subst}
 use mathlib.Core.Bool.{Bool, true, false, _&&_, not, false≢true}
 use native.Mathlib.Omega.{arith}
-use borrow.Author.Tests.{eqb-true, eqb-false}
+use borrow.Author.Tests.{eqb-true, eqb-false, not-true}
 use lib.Bits.{bitAnd, bitOr, bitXor}
 use lib.Dec.{eqb}
 use Rattle.camac.specs.Checks.{if_then_else_}
@@ -48,10 +48,6 @@ bitsRead f =
 pub bits-read : (f : ℕ) → f < 64 → bitsRead f ≡ flagBits f
 unfolding flagBits allBelow
 bits-read f h = eqb-true (bitsRead f) (flagBits f) (tried 64 (λ (k : ℕ). eqb (bitsRead k) (flagBits k)) refl f h)
-
-pub not-true : (b : Bool) → not b ≡ true → b ≡ false
-not-true true e = absurd (false≢true e)
-not-true false e = refl
 
 under : (b x : Bool) → b ≡ true → (if b then x else true) ≡ true → x ≡ true
 under true x h e = e

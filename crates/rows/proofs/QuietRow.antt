@@ -2,11 +2,11 @@
 -- buffer are what code makes of it. It is no cause where its flags are none by themselves, a scan has a next place and repeat another try.
 use Prim.Native.Nat.{ℕ, _+_, _-_, _%_, _≤_, _<_}
 use mathlib.Core.Path.{_≡_, refl, sym, ap, _∙_, subst}
-use mathlib.Core.Bool.{Bool, true, false, _&&_, _||_, not, true≢false}
+use mathlib.Core.Bool.{Bool, true, false, _&&_, _||_, not}
 use mathlib.Core.List.{List}
 use mathlib.Core.Option.{some}
 use native.Mathlib.Omega.{arith}
-use borrow.Author.Tests.{eq-eqb, ne-eqb}
+use borrow.Author.Tests.{eq-eqb, ne-eqb, not-true}
 use lib.Bits.{bitAnd, bitOr, or-zero-l}
 use lib.Dec.{eqb, ltb}
 use lib.ListN.{getD, take, drop}
@@ -25,7 +25,7 @@ use Rattle.walk.specs.Walk.{movedBy, moved}
 use Rattle.run.specs.Replies.{replyOf, isFormed}
 use Rattle.run.specs.Causes.{done, spent, ranOff, leaves, scanLeaves, codeOf}
 use Rattle.run.specs.Status.{flagsOf}
-use Rattle.run.specs.Effect.{noteAfter, movedRecord, movedBytes, counted, waiting, triesAfter, positionAfter}
+use Rattle.run.specs.Effect.{noteAfter, storedBy, movedRecord, movedBytes, counted, waiting, triesAfter, positionAfter}
 use Rattle.run.specs.Here.{onRun, hereRun, hereBuffer}
 use Rattle.run.specs.declared.Answer.{Answer}
 use Rattle.run.specs.declared.Reply.the-variants.{Answered}
@@ -33,18 +33,15 @@ use Rattle.run.specs.declared.Record.{Record}
 use Rattle.run.specs.declared.Taken.the-variants.{Same, Through}
 use Rattle.run.proofs.TestFacts.{on}
 use Rattle.run.proofs.CodeCases.{code-0}
+use Rattle.run.proofs.HereCases.{by-mark}
 use Rattle.run.proofs.ReplyFacts.{piece-byte, piece-first, answer-read, reply-answer}
 use Rattle.rows.specs.Row.{isNoScan, wordIn}
-use Rattle.rows.specs.Quiet.{answerBy, flagBits, rulesOf, NoCause, Quiet, Judged, movedOn, movedLast, waitedOn, wordStored}
+use Rattle.rows.specs.Quiet.{answerBy, flagBits, rulesOf, NoCause, Judged, movedOn, movedLast, waitedOn}
 use Rattle.rows.specs.declared.Rules.{Rules}
 use Rattle.rows.specs.declared.Effect.the-variants.{Word, Last, Wait, Other}
-use Rattle.rows.proofs.Flags.{not-true, Fine, flags-fine, flags-done}
+use Rattle.rows.proofs.Flags.{Fine, flags-fine, flags-done}
 
 -- When an answer is no cause ---------------------------------------------------------------------------------------------
-
-or-second : (a b : Bool) → a ≡ false → (a || b) ≡ true → b ≡ true
-or-second true b h e = absurd (true≢false h)
-or-second false b h e = e
 
 and-false : (a : Bool) → a && false ≡ false
 and-false true = refl
@@ -58,7 +55,7 @@ other-stays p h = rw h
 done-stays : (p : ScanPosition) → (ltb (p .subaddress) 15 || ltb (p .station) 23) ≡ true → ranOff (afterDone p) ≡ false
 unfolding afterDone
 done-stays p h =
-    on (ltb (p .subaddress) 15) (λ e. rw e) (λ e. rw e (other-stays p (or-second (ltb (p .subaddress) 15) (ltb (p .station) 23) e h)))
+    on (ltb (p .subaddress) 15) (λ e. rw e) (λ e. rw e (other-stays p (rw e at h)))
 
 module _ (a : Answer) (p : ScanPosition) (left : ℕ) where
   word-stays : (q : QMode) → done q a ≡ true → (isNoScan q || (ltb (p .subaddress) 15 || ltb (p .station) 23)) ≡ true
@@ -300,29 +297,17 @@ pub word-room : (limit : ℕ) (c : Command) (rules : Rules) → rules ≡ rulesO
 unfolding rulesOf moved
 word-room limit c rules e m =
     ap (λ (x : Rules). movedBy (x .direction) (x .wide) (record { incoming = m .incoming; outgoing = 0 }) .incoming) e
-    ∙ go (directionOf (c .transfer))
-  where
-    go : (d : Direction) → movedBy d (c .wide) (record { incoming = m .incoming; outgoing = 0 }) .incoming ≡ movedBy d (c .wide) m .incoming
-    go Incoming = refl
-    go Outgoing = refl
-    go Neither = refl
+    ∙ sym (by-mark (directionOf (c .transfer)) (c .wide) m)
 
 pub rules-steady : (limit : ℕ) (c : Command) (rules : Rules) → rules ≡ rulesOf limit c → rules .steady ≡ isNoScan (qmodeOf (c .transfer))
 unfolding rulesOf
 rules-steady limit c rules e = ap (λ (x : Rules). x .steady) e
 
 -- the bytes that code stores
-pub stored-word : (limit : ℕ) (c : Command) (row : List ℕ) (at mark : ℕ) (b : List ℕ) (rules : Rules) → rules ≡ rulesOf limit c
-    → wordStored (rules .direction) (rules .wide) row at mark b ≡ movedBytes c (wordIn row at % 16777216) mark b
+pub stored-word : (limit : ℕ) (c : Command) (word mark : ℕ) (b : List ℕ) (rules : Rules) → rules ≡ rulesOf limit c
+    → storedBy (rules .direction) (rules .wide) word mark b ≡ movedBytes c word mark b
 unfolding rulesOf movedBytes
-stored-word limit c row at mark b rules e =
-    ap (λ (x : Rules). wordStored (x .direction) (x .wide) row at mark b) e ∙ go (directionOf (c .transfer)) refl
-  where
-    go : (d : Direction) → directionOf (c .transfer) ≡ d
-        → wordStored (directionOf (c .transfer)) (c .wide) row at mark b ≡ movedBytes c (wordIn row at % 16777216) mark b
-    go Incoming e = rw e
-    go Outgoing e = rw e
-    go Neither e = rw e
+stored-word limit c word mark b rules e = ap (λ (x : Rules). storedBy (x .direction) (x .wide) word mark b) e
 
 -- the answer at a place of the row
 pub quiet-reply : (row : List ℕ) (at f : ℕ) → isFormed (take 8 (drop at row)) ≡ true → getD row at 0 ≡ 0 → f ≡ getD row (at + 1) 0

@@ -1,34 +1,31 @@
 -- A quiet answer of the row taken at a record that waits: the same instruction waits behind it, with the record and the bytes that code makes.
 use Prim.Native.Nat.{ℕ, _+_, _%_, _<_}
 use mathlib.Core.Path.{_≡_, refl, sym, ap, _∙_, subst}
-use mathlib.Core.Bool.{Bool, true, false, false≢true}
+use mathlib.Core.Bool.{true, false}
 use mathlib.Core.List.{List}
 use native.Mathlib.Omega.{arith}
 use borrow.Author.Tests.{ltb-true}
 use lib.Dec.{eqb}
 use lib.ListN.{length, getD, take, drop}
 use Rattle.camac.specs.declared.Command.{Command}
-use Rattle.camac.specs.declared.Direction.{Direction}
-use Rattle.camac.specs.declared.Direction.the-variants.{Incoming, Outgoing, Neither}
 use Rattle.camac.proofs.Bools.{and-left, and-right}
-use Rattle.packing.proofs.MarkFacts.{stored-length}
 use Rattle.listfile.specs.Bytes.{byteAt}
 use Rattle.listfile.specs.declared.Sizes.{Sizes}
 use Rattle.walk.specs.Walk.{Visit}
 use Rattle.walk.specs.Admission.{Plan}
 use Rattle.walk.specs.Sums.{restFrom, planBy}
-use Rattle.run.specs.Replies.{replyOf, isFormed, hasForm}
-use Rattle.run.specs.Effect.{runOn}
+use Rattle.run.specs.Replies.{isFormed, hasForm}
+use Rattle.run.specs.Effect.{storedBy, runOn}
 use Rattle.run.specs.Calls.{stateOf}
 use Rattle.run.specs.Here.{hereRun, hereBuffer}
 use Rattle.run.specs.declared.Reply.the-variants.{Answered}
 use Rattle.run.specs.declared.Record.{Record}
 use Rattle.run.specs.declared.Taken.the-variants.{Same, Through}
-use Rattle.run.proofs.TestFacts.{on}
-use Rattle.run.proofs.ReplyFacts.{piece-byte}
+use Rattle.run.proofs.ReplyFacts.{piece-byte, formed-has-form}
+use Rattle.bound.proofs.Move.{bytes-length}
 use Rattle.engine.specs.Onward.{Going}
 use Rattle.rows.specs.Row.{FormedFrom, Grounds, Alive, Stays, Moves, wordIn, Ahead, Stretch}
-use Rattle.rows.specs.Quiet.{answerBy, flagBits, rulesOf, Quiet, movedOn, movedLast, waitedOn, wordStored, LastReady}
+use Rattle.rows.specs.Quiet.{answerBy, flagBits, rulesOf, Quiet, movedOn, movedLast, waitedOn, LastReady}
 use Rattle.rows.specs.declared.Rules.{Rules}
 use Rattle.rows.proofs.RowLaws.{FormedHere, formed-here}
 use Rattle.rows.proofs.WordsAhead.{ahead}
@@ -37,10 +34,8 @@ use Rattle.rows.proofs.QuietRow.{word-room, quiet-word, quiet-last, qui
 
 -- the flags of formed bytes are six bits
 few-flags : (bytes : List ℕ) → isFormed bytes ≡ true → byteAt bytes 1 < 64
-unfolding replyOf hasForm
-few-flags bytes formed =
-    let form : hasForm bytes ≡ true = on (hasForm bytes) (λ e. e) (λ e. absurd (false≢true (rw e at formed))) in
-    ltb-true (byteAt bytes 1) 64 (and-left _ _ (and-right (eqb (length bytes) 8) _ form))
+unfolding hasForm
+few-flags bytes formed = ltb-true (byteAt bytes 1) 64 (and-left _ _ (and-right (eqb (length bytes) 8) _ (formed-has-form bytes formed)))
 
 -- another buffer of the same length, and equal records
 pub ahead-as : {c : Command} {r r′ : Record} {b b′ : List ℕ} → r ≡ r′ → length b ≡ length b′ → Ahead c r′ b′ → Ahead c r b
@@ -75,11 +70,6 @@ pub moves-to : {p : Plan} {row : List ℕ} {r r′ : Record} {from at at′ : �
     → Moves p row r from b r′ at b′ → Moves p row r from b r′ at′ b′
 moves-to {p} {row} {r} {r′} {from} {b = b} {b′ = b′} e x = subst (λ (y : ℕ). Moves p row r from b r′ y b′) (sym e) x
 
-word-length : (d : Direction) (wide : Bool) (row : List ℕ) (at mark : ℕ) (b : List ℕ) → length (wordStored d wide row at mark b) ≡ length b
-word-length Incoming wide row at mark b = stored-length wide (wordIn row at % 16777216) mark b
-word-length Outgoing wide row at mark b = refl
-word-length Neither wide row at mark b = refl
-
 pub rules-own : (limit : ℕ) (c : Command) (rules : Rules) → rules ≡ rulesOf limit c → rules ≡ rulesOf (rules .limit) c
 unfolding rulesOf
 rules-own limit c rules e = e ∙ ap (λ (l : ℕ). rulesOf l c) (sym (ap (λ (x : Rules). x .limit) e))
@@ -95,12 +85,12 @@ module _ (list table : List ℕ) (s : Sizes) (room : ℕ) (g : Grounds list tabl
 
   pub word-taken : (¬ (r .left ≡ 1)) × Quiet rules (getD row at 0) (getD row (at + 1) 0) r true
       → Stays (planBy list s) c row r at b (movedOn rules (flagBits (getD row (at + 1) 0)) r) (at + 8)
-      (wordStored (rules .direction) (rules .wide) row at (r .marks .incoming) b)
+      (storedBy (rules .direction) (rules .wide) (wordIn row at % 16777216) (r .marks .incoming) b)
   word-taken (more, x) =
       let n = x .noCause (s .limit) c (wordIn row at) er few in
       let d = x .done-is (s .limit) c (wordIn row at) er few in
       stays list table s room g c r al (Answered (answerBy (getD row (at + 1) 0) (wordIn row at))) b _
-      (stored-word (s .limit) c row at (r .marks .incoming) b rules er ∙ word-buffer (s .limit) c r (getD row (at + 1) 0) (wordIn row at) n b d)
+      (stored-word (s .limit) c (wordIn row at % 16777216) (r .marks .incoming) b rules er ∙ word-buffer (s .limit) c r (getD row (at + 1) 0) (wordIn row at) n b d)
       (Same (movedOn rules (flagBits (getD row (at + 1) 0)) r))
       (quiet-word (s .limit) c r (getD row (at + 1) 0) (wordIn row at) n rules er more d)
       row at f h (quiet-reply row at _ (here .formed) (x .answer) refl) _ refl
@@ -120,14 +110,14 @@ module _ (list table : List ℕ) (s : Sizes) (room : ℕ) (g : Grounds list tabl
     moved = movedLast rules (flagBits (getD row (at + 1) 0)) r
 
     abbrev bytes : List ℕ
-    bytes = wordStored (rules .direction) (rules .wide) row at (r .marks .incoming) b
+    bytes = storedBy (rules .direction) (rules .wide) (wordIn row at % 16777216) (r .marks .incoming) b
 
     run : Through moved ≡ hereRun (s .limit) c (Answered (answerBy (getD row (at + 1) 0) (wordIn row at))) r
     run = quiet-last (s .limit) c r (getD row (at + 1) 0) (wordIn row at) (x .noCause (s .limit) c (wordIn row at) er few) rules er one
         (x .done-is (s .limit) c (wordIn row at) er few)
 
     buffer : bytes ≡ hereBuffer (s .limit) c (Answered (answerBy (getD row (at + 1) 0) (wordIn row at))) r b
-    buffer = stored-word (s .limit) c row at (r .marks .incoming) b rules er
+    buffer = stored-word (s .limit) c (wordIn row at % 16777216) (r .marks .incoming) b rules er
         ∙ word-buffer (s .limit) c r (getD row (at + 1) 0) (wordIn row at) (x .noCause (s .limit) c (wordIn row at) er few) b
         (x .done-is (s .limit) c (wordIn row at) er few)
 
@@ -142,7 +132,7 @@ module _ (list table : List ℕ) (s : Sizes) (room : ℕ) (g : Grounds list tabl
           entries = omega (arith, g .prepared .entries, g .prepared .planned .few);
           few = g .prepared .planned .few;
           right = g .prepared .planned .right;
-          going = last-going (word-length (rules .direction) (rules .wide) row at (r .marks .incoming) b ∙ e);
+          going = last-going (bytes-length (rules .direction) (rules .wide) (wordIn row at % 16777216) (r .marks .incoming) b ∙ e);
           room = omega (arith, word-room (s .limit) c rules er (r .marks), ready list table s room g c r al b e .room);
           operations = omega (arith, a .operations);
           incoming = omega (arith, a .incoming);

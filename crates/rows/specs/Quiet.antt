@@ -12,14 +12,11 @@ use Rattle.camac.specs.Words.{qmodeOf, directionOf}
 use Rattle.camac.specs.declared.QMode.{QMode}
 use Rattle.camac.specs.declared.QMode.the-variants.{Stop, Ignore, Repeat, Scan}
 use Rattle.camac.specs.declared.Command.{Command}
-use Rattle.camac.specs.declared.Direction.{Direction}
-use Rattle.camac.specs.declared.Direction.the-variants.{Incoming, Outgoing, Neither}
-use Rattle.packing.specs.Packing.{stored}
 use Rattle.listfile.specs.Table.{TableRight}
 use Rattle.walk.specs.Walk.{movedBy}
 use Rattle.run.specs.Causes.{done, spent, parityError, scanLeaves, noX, noQInStop}
 use Rattle.run.specs.Status.{_sets_, bitsOf}
-use Rattle.run.specs.Effect.{noteAfter, triesAfter, positionAfter}
+use Rattle.run.specs.Effect.{noteAfter, storedBy, triesAfter, positionAfter}
 use Rattle.run.specs.declared.Answer.{Answer}
 use Rattle.run.specs.declared.Record.{Record}
 use Rattle.engine.specs.Onward.{Going}
@@ -154,12 +151,6 @@ waitedOn rules bits r = record {
   note = r .note;
 }
 
--- the incoming buffer after a word
-abbrev pub wordStored : Direction → Bool → List ℕ → ℕ → ℕ → List ℕ → List ℕ
-wordStored Incoming wide row at mark buffer = stored wide (wordIn row at % 16777216) mark buffer
-wordStored Outgoing wide row at mark buffer = buffer
-wordStored Neither wide row at mark buffer = buffer
-
 -- what the last word of an instruction needs
 pub record LastReady (list table : List ℕ) (count : ℕ) (rules : Rules) (bits : ℕ) (r : Record) (row : List ℕ) (at : ℕ)
     (buffer : List ℕ) : Type 0 where
@@ -167,7 +158,7 @@ pub record LastReady (list table : List ℕ) (count : ℕ) (rules : Rules) (bits
   pub few : count ≤ 4096
   pub right : TableRight list table count
   pub going : Going list count (r .instruction + 1) (movedLast rules bits r)
-      (wordStored (rules .direction) (rules .wide) row at (r .marks .incoming) buffer)
+      (storedBy (rules .direction) (rules .wide) (wordIn row at % 16777216) (r .marks .incoming) buffer)
   pub room : movedBy (rules .direction) (rules .wide) (record { incoming = r .marks .incoming; outgoing = 0 }) .incoming ≤ length buffer
   pub operations : r .operations < 9223372036854775808
   pub incoming : r .marks .incoming < 9223372036854775808

@@ -24,11 +24,11 @@ ghost use Rattle.packing.specs.Packing.{markAfterWords};
 ghost use Rattle.walk.specs.Walk.{movedBy, movedWords};
 ghost use Rattle.camac.specs.Checks.{if_then_else_};
 ghost use Rattle.walk.specs.Sums.{restFrom, planBy};
-ghost use Rattle.run.specs.Effect.{runOn};
+ghost use Rattle.run.specs.Effect.{storedBy, runOn};
 ghost use Rattle.run.specs.Here.{Ready};
 ghost use Rattle.run.specs.Replies.{repliesIn, allFormed};
 ghost use Rattle.run.specs.Calls.{refusedRecord, stateOf, runOf, ranOf};
-ghost use Rattle.rows.specs.Quiet.{unlessAd, judgedFlags, doneFlags, rulesOf, flagBits, Judged, movedOn, movedLast, waitedOn, wordStored, LastReady};
+ghost use Rattle.rows.specs.Quiet.{unlessAd, judgedFlags, doneFlags, rulesOf, flagBits, Judged, movedOn, movedLast, waitedOn, LastReady};
 ghost use Rattle.rows.specs.Row.{rowFrom, stoppedAt, FormedFrom, Grounds, Stage, Alive, Moves, isNoScan, Clean, cleanStored, cleanBytes, noteBehind, NoteRoom, cleaned, Ahead, Stretch, wordIn, Next};
 
 // A record with the place of the row that it has come to.
@@ -456,7 +456,7 @@ fn store_word(
     incoming: &mut [u8],
 )
     requires { ⌜ (at + 8 ≤ length (now row)) × (movedBy direction wide (record { incoming = mark; outgoing = 0 }) .incoming ≤ length (now incoming)) ⌝ }
-    ensures { λ r. ⌜ now (incoming .exit) ≡ wordStored direction wide (now (row .entry)) at mark (now (incoming .entry)) ⌝ }
+    ensures { λ r. ⌜ now (incoming .exit) ≡ storedBy direction wide (wordIn (now (row .entry)) at % 16777216) mark (now (incoming .entry)) ⌝ }
 {
     match direction {
         Direction::Incoming => {
@@ -551,7 +551,7 @@ fn take_word(
     requires { ⌜ (rules ≡ rulesOf (rules .limit) c) × ((at + 8 ≤ length (now row)) × ((flags < 64) × (Ready c r (now incoming)
         × (Ahead c r (now incoming) × Ahead c (movedOn rules (flagBits flags) r) (now incoming))))) ⌝ }
     ensures { λ v. ⌜ Stretch c (movedOn rules (flagBits flags) r) (now (row .entry)) (at + 8)
-        (wordStored (rules .direction) (rules .wide) (now (row .entry)) at (r .marks .incoming) (now (incoming .entry))) (v .run) (v .at) (now (incoming .exit)) ⌝ }
+        (storedBy (rules .direction) (rules .wide) (wordIn (now (row .entry)) at % 16777216) (r .marks .incoming) (now (incoming .entry))) (v .run) (v .at) (now (incoming .exit)) ⌝ }
 {
     let marks = r.marks;
     let direction = rules.direction;
@@ -574,7 +574,7 @@ fn take_last(
 ) -> Arrived
     requires { ⌜ (at + 8 ≤ length (now row)) × ((flags < 64) × LastReady (now list) (now table) count rules (flagBits flags) r (now row) at (now incoming)) ⌝ }
     ensures { λ v. ⌜ ((out : List ℕ) → stateOf (v .run) (now (incoming .exit)) out ≡ runOn (restFrom (now (list .entry)) count (r .instruction + 1))
-        (stateOf (movedLast rules (flagBits flags) r) (wordStored (rules .direction) (rules .wide) (now (row .entry)) at (r .marks .incoming) (now (incoming .entry))) out))
+        (stateOf (movedLast rules (flagBits flags) r) (storedBy (rules .direction) (rules .wide) (wordIn (now (row .entry)) at % 16777216) (r .marks .incoming) (now (incoming .entry))) out))
         × ((v .at ≡ at + 8) × Next (now (list .entry)) (now (table .entry)) (v .run) (v .next)) ⌝ }
 {
     let marks = r.marks;

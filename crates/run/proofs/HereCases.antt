@@ -31,7 +31,7 @@ use Rattle.run.specs.declared.Taken.the-variants.{Same, Through, Ended}
 
 -- Marks and room ---------------------------------------------------------------------------------------------------------
 
-by-mark :
+pub by-mark :
     (d : Direction) (wide : Bool) (m : Marks)
     → movedBy d wide m .incoming ≡ movedBy d wide (record { incoming = m .incoming; outgoing = 0 }) .incoming
 by-mark Incoming wide m = refl

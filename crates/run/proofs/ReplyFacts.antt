@@ -88,7 +88,7 @@ form-of bytes e =
       seventh = eqb-true _ _ (u .0);
     }
 
-formed-has-form : (bytes : List ℕ) → isFormed bytes ≡ true → hasForm bytes ≡ true
+pub formed-has-form : (bytes : List ℕ) → isFormed bytes ≡ true → hasForm bytes ≡ true
 unfolding replyOf
 formed-has-form bytes e = on (hasForm bytes) (λ h. h) (λ h. absurd (true-not-false (sym (rw h at e))))
 
