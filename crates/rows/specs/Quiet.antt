@@ -1,5 +1,5 @@
--- Answers that are no cause, before the last word of their instruction, as code judges them by their flags. Nothing here is a rule of document 01:
--- the laws of QuietRow join these definitions to those that are.
+-- Answers that are no cause, as code judges them by their flags. Nothing here is a rule of document 01: the laws of QuietRow join these
+-- definitions to those that are.
 use Prim.Native.Nat.{ℕ, _+_, _-_, _/_, _%_, _≤_, _<_}
 use mathlib.Core.Path.{_≡_}
 use mathlib.Core.Bool.{Bool, true, false, _||_, not}
