@@ -1,4 +1,5 @@
-pub mod Checks
 pub mod Scan
+pub mod Modes
 pub mod Words
 pub mod Names
+pub mod Ends

@@ -1,45 +1,37 @@
 -- The names of the sixteen error codes (document 01, "Sixteen codes have a name table, 001's, for printing"; 001,
--- "Control/Status Register"), as bytes, filled with blanks to sixteen.
-use Prim.Native.Nat.{ℕ}
+-- "Control/Status Register").
+use Prim.Native.Nat.{ℕ, zero, suc}
+use Prim.Native.Char.{code}
+use Prim.Native.String.{String, [] as empty, _∷_ as _then_}
 use mathlib.Core.List.{List, [], _∷_}
-use lib.ListN.{getD, replicate}
+use lib.ListN.{getD}
 
-unfoldable pub names : List (List ℕ)
+unfoldable pub names : List String
 names =
-    -- 0: NO ERROR
-    (78 ∷ 79 ∷ 32 ∷ 69 ∷ 82 ∷ 82 ∷ 79 ∷ 82 ∷ 32 ∷ 32 ∷ 32 ∷ 32 ∷ 32 ∷ 32 ∷ 32 ∷ 32 ∷ []) ∷
-    -- 1: ILLEGAL COMMAND
-    (73 ∷ 76 ∷ 76 ∷ 69 ∷ 71 ∷ 65 ∷ 76 ∷ 32 ∷ 67 ∷ 79 ∷ 77 ∷ 77 ∷ 65 ∷ 78 ∷ 68 ∷ 32 ∷ []) ∷
-    -- 2: RESERVED
-    (82 ∷ 69 ∷ 83 ∷ 69 ∷ 82 ∷ 86 ∷ 69 ∷ 68 ∷ 32 ∷ 32 ∷ 32 ∷ 32 ∷ 32 ∷ 32 ∷ 32 ∷ 32 ∷ []) ∷
-    -- 3: RESERVED
-    (82 ∷ 69 ∷ 83 ∷ 69 ∷ 82 ∷ 86 ∷ 69 ∷ 68 ∷ 32 ∷ 32 ∷ 32 ∷ 32 ∷ 32 ∷ 32 ∷ 32 ∷ 32 ∷ []) ∷
-    -- 4: SERIAL ERROR
-    (83 ∷ 69 ∷ 82 ∷ 73 ∷ 65 ∷ 76 ∷ 32 ∷ 69 ∷ 82 ∷ 82 ∷ 79 ∷ 82 ∷ 32 ∷ 32 ∷ 32 ∷ 32 ∷ []) ∷
-    -- 5: RESERVED
-    (82 ∷ 69 ∷ 83 ∷ 69 ∷ 82 ∷ 86 ∷ 69 ∷ 68 ∷ 32 ∷ 32 ∷ 32 ∷ 32 ∷ 32 ∷ 32 ∷ 32 ∷ 32 ∷ []) ∷
-    -- 6: RESERVED
-    (82 ∷ 69 ∷ 83 ∷ 69 ∷ 82 ∷ 86 ∷ 69 ∷ 68 ∷ 32 ∷ 32 ∷ 32 ∷ 32 ∷ 32 ∷ 32 ∷ 32 ∷ 32 ∷ []) ∷
-    -- 7: NO-Q
-    (78 ∷ 79 ∷ 45 ∷ 81 ∷ 32 ∷ 32 ∷ 32 ∷ 32 ∷ 32 ∷ 32 ∷ 32 ∷ 32 ∷ 32 ∷ 32 ∷ 32 ∷ 32 ∷ []) ∷
-    -- 8: NO-X
-    (78 ∷ 79 ∷ 45 ∷ 88 ∷ 32 ∷ 32 ∷ 32 ∷ 32 ∷ 32 ∷ 32 ∷ 32 ∷ 32 ∷ 32 ∷ 32 ∷ 32 ∷ 32 ∷ []) ∷
-    -- 9: N>23
-    (78 ∷ 62 ∷ 50 ∷ 51 ∷ 32 ∷ 32 ∷ 32 ∷ 32 ∷ 32 ∷ 32 ∷ 32 ∷ 32 ∷ 32 ∷ 32 ∷ 32 ∷ 32 ∷ []) ∷
-    -- A: STE
-    (83 ∷ 84 ∷ 69 ∷ 32 ∷ 32 ∷ 32 ∷ 32 ∷ 32 ∷ 32 ∷ 32 ∷ 32 ∷ 32 ∷ 32 ∷ 32 ∷ 32 ∷ 32 ∷ []) ∷
-    -- B: TIMEOUT
-    (84 ∷ 73 ∷ 77 ∷ 69 ∷ 79 ∷ 85 ∷ 84 ∷ 32 ∷ 32 ∷ 32 ∷ 32 ∷ 32 ∷ 32 ∷ 32 ∷ 32 ∷ 32 ∷ []) ∷
-    -- C: ADNR
-    (65 ∷ 68 ∷ 78 ∷ 82 ∷ 32 ∷ 32 ∷ 32 ∷ 32 ∷ 32 ∷ 32 ∷ 32 ∷ 32 ∷ 32 ∷ 32 ∷ 32 ∷ 32 ∷ []) ∷
-    -- D: NO SYNC
-    (78 ∷ 79 ∷ 32 ∷ 83 ∷ 89 ∷ 78 ∷ 67 ∷ 32 ∷ 32 ∷ 32 ∷ 32 ∷ 32 ∷ 32 ∷ 32 ∷ 32 ∷ 32 ∷ []) ∷
-    -- E: RESERVED
-    (82 ∷ 69 ∷ 83 ∷ 69 ∷ 82 ∷ 86 ∷ 69 ∷ 68 ∷ 32 ∷ 32 ∷ 32 ∷ 32 ∷ 32 ∷ 32 ∷ 32 ∷ 32 ∷ []) ∷
-    -- F: RESERVED
-    (82 ∷ 69 ∷ 83 ∷ 69 ∷ 82 ∷ 86 ∷ 69 ∷ 68 ∷ 32 ∷ 32 ∷ 32 ∷ 32 ∷ 32 ∷ 32 ∷ 32 ∷ 32 ∷ []) ∷
-    []
+    "NO ERROR"
+    ∷ "ILLEGAL COMMAND"
+    ∷ "RESERVED"
+    ∷ "RESERVED"
+    ∷ "SERIAL ERROR"
+    ∷ "RESERVED"
+    ∷ "RESERVED"
+    ∷ "NO-Q"
+    ∷ "NO-X"
+    ∷ "N>23"
+    ∷ "STE"
+    ∷ "TIMEOUT"
+    ∷ "ADNR"
+    ∷ "NO SYNC"
+    ∷ "RESERVED"
+    ∷ "RESERVED"
+    ∷ []
 
--- a code above 15 has no name: sixteen blanks
+-- a text in a number of bytes, filled with blanks
+unfoldable pub filled : ℕ → String → List ℕ
+filled zero text = []
+filled (suc n) empty = code " " ∷ filled n empty
+filled (suc n) (letter then text) = code letter ∷ filled n text
+
+-- sixteen bytes: a code's name; blanks for a code above 15, which has none
 unfoldable pub nameOf : ℕ → List ℕ
-nameOf code = getD names code (replicate 16 32)
+nameOf errorCode = filled 16 (getD names errorCode "")

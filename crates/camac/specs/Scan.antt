@@ -2,10 +2,10 @@
 use Prim.Native.Nat.{ℕ, _+_, _-_, _*_}
 use mathlib.Core.Bool.{Bool}
 use lib.Dec.{ltb}
-use Rattle.camac.specs.Checks.{if_then_else_}
-use Rattle.camac.specs.declared.ScanPosition.{ScanPosition}
-use Rattle.camac.specs.declared.Moved.{Moved}
-use Rattle.camac.specs.declared.Moved.the-variants.{At, RanOff}
+use Rattle.base.specs.Checks.{if_then_else_}
+use Rattle.camac.specs.declared.scan.ScanPosition.{ScanPosition}
+use Rattle.camac.specs.declared.scan.Moved.{Moved}
+use Rattle.camac.specs.declared.scan.Moved.the-variants.{At, RanOff}
 
 -- "S = 24 − N": the stations from N to 23. Only scans ask for S and P, and refusal 7 keeps their N at 23 or below.
 unfoldable pub stations : ScanPosition → ℕ

@@ -1,28 +1,29 @@
 -- CAMAC words: what the two longwords of a CAMAC instruction say, and refusals 6 to 9 (document 01, "CAMAC words" and
 -- "Who can cause which refusal"; the driver manual's "Command Memory Instruction Formats").
-use Prim.Native.Nat.{ℕ, zero, suc, _-_, _/_, _%_}
+use Prim.Native.Nat.{ℕ, zero, suc, _-_, _/_, _%_, _^_}
 use mathlib.Core.Bool.{Bool, _&&_, _||_, not}
 use mathlib.Core.List.{[], _∷_}
 use lib.Dec.{leb, ltb, eqb}
-use Rattle.camac.specs.Checks.{if_then_else_, _gives_, firstOf, bit}
+use Rattle.base.specs.Checks.{if_then_else_, _gives_, firstOf, bit, bits}
 use Rattle.camac.specs.Scan.{positions}
-use Rattle.camac.specs.declared.QMode.{QMode}
-use Rattle.camac.specs.declared.QMode.the-variants.{Stop, Ignore, Repeat, Scan}
-use Rattle.camac.specs.declared.Address.{Address}
-use Rattle.camac.specs.declared.Transfer.{Transfer}
-use Rattle.camac.specs.declared.Transfer.the-variants.{Single, Block, Inline}
-use Rattle.camac.specs.declared.Command.{Command}
-use Rattle.camac.specs.declared.Direction.{Direction}
-use Rattle.camac.specs.declared.Direction.the-variants.{Incoming, Outgoing, Neither}
-use Rattle.camac.specs.declared.ScanPosition.{ScanPosition}
-use Rattle.camac.specs.declared.Decoded.{Decoded}
-use Rattle.camac.specs.declared.Decoded.the-variants.{Carried, Refused}
+use Rattle.camac.specs.Modes.{isScan}
+use Rattle.camac.specs.declared.modes.QMode.{QMode}
+use Rattle.camac.specs.declared.modes.QMode.the-variants.{Stop, Ignore, Repeat, Scan}
+use Rattle.camac.specs.declared.words.Address.{Address}
+use Rattle.camac.specs.declared.words.Transfer.{Transfer}
+use Rattle.camac.specs.declared.words.Transfer.the-variants.{Single, Block, Inline}
+use Rattle.camac.specs.declared.words.Command.{Command}
+use Rattle.camac.specs.declared.words.Direction.{Direction}
+use Rattle.camac.specs.declared.words.Direction.the-variants.{Incoming, Outgoing, Neither}
+use Rattle.camac.specs.declared.scan.ScanPosition.{ScanPosition}
+use Rattle.camac.specs.declared.words.Decoded.{Decoded}
+use Rattle.camac.specs.declared.words.Decoded.the-variants.{Carried, Refused}
 
 -- The first longword -----------------------------------------------------------------------------------------------------
 
 -- "transfer mode 6–5"
 abbrev pub modeIn : ℕ → ℕ
-modeIn first = first / 32 % 4
+modeIn first = bits 6 5 first
 
 -- "Q-mode 4–3"; "Q-mode 0 stop, 1 ignore, 2 repeat, 3 scan"
 abbrev pub qmodeNumbered : ℕ → QMode
@@ -32,15 +33,15 @@ qmodeNumbered (suc (suc zero)) = Repeat
 qmodeNumbered (suc (suc (suc k))) = Scan
 
 abbrev pub qmodeIn : ℕ → QMode
-qmodeIn first = qmodeNumbered (first / 8 % 4)
+qmodeIn first = qmodeNumbered (bits 4 3 first)
 
 -- "station N 29–25; subaddress A 24–21; function F 20–16; crate 13–8"
 unfoldable pub addressIn : ℕ → Address
 addressIn first = record {
-  station = first / 33554432 % 32;
-  subaddress = first / 2097152 % 16;
-  function = first / 65536 % 32;
-  «crate_number» = first / 256 % 64;
+  station = bits 29 25 first;
+  subaddress = bits 24 21 first;
+  function = bits 20 16 first;
+  «crate_number» = bits 13 8 first;
 }
 
 -- "bit 1 set for 16-bit words, else 24-bit"
@@ -62,7 +63,7 @@ isWrite f = not (isControl f) && bit 4 f
 
 -- "For a block the second longword is the two's complement of H, counted in halfwords"
 abbrev pub halfwords : ℕ → ℕ
-halfwords second = 4294967296 - second
+halfwords second = 2 ^ 32 - second
 
 -- "n = H for 16-bit, H/2 for 24-bit words"
 unfoldable pub blockWords : Bool → ℕ → ℕ
@@ -118,7 +119,7 @@ positionOf t = record { station = addressOf t .station; subaddress = addressOf t
 -- Refusals ---------------------------------------------------------------------------------------------------------------
 
 abbrev pub isScanIn : ℕ → Bool
-isScanIn first = eqb (first / 8 % 4) 3
+isScanIn first = isScan (qmodeIn first)
 
 -- 6: "a zero bit is set"; "bits 31, 30, 15, 14, 7, 2 zero"
 abbrev pub zeroBitSet : ℕ → Bool
@@ -146,7 +147,7 @@ badCount wide second = eqb second 0 || (ltb 65536 (halfwords second) || (wide &&
 
 -- 9, of an inline write: "inline bits above the word size"
 abbrev pub aboveWord : Bool → ℕ → Bool
-aboveWord wide second = leb (if wide then 16777216 else 65536) second
+aboveWord wide second = leb (if wide then 2 ^ 24 else 2 ^ 16) second
 
 abbrev pub badSecond : ℕ → ℕ → Bool
 badSecond first second =

@@ -1,8 +1,8 @@
 // camrun: admits run.lst, runs it over the replies of run.rep with the outgoing words of run.out, and prints what happened. Each file is
 // read up to 65,536 bytes; a missing one is empty. The incoming buffer is 65,536 zero bytes.
-use listfile::Refusal;
-use run::Operation;
-use run::Record;
+use base::Refusal;
+use calls::Operation;
+use reply::Record;
 use walk::Admission;
 use walk::Counts;
 ghost use Rattle.io.specs.Counts.{Counts as CountsBytes};
@@ -42,7 +42,7 @@ fn run_list(list: &[u8], replies: &[u8], outgoing: &[u8]) {
         }
         Admission::Admitted(counts) => {
             print_admitted(counts);
-            if rows::is_row_formed(replies) {
+            if whole_run::is_row_formed(replies) {
                 run_replies(list, replies, outgoing);
             } else {
                 print_refused(Refusal {
@@ -58,7 +58,7 @@ fn run_list(list: &[u8], replies: &[u8], outgoing: &[u8]) {
 fn run_replies(list: &[u8], replies: &[u8], outgoing: &[u8]) {
     let mut space = io::large_buffer();
     let incoming: &mut [u8] = &mut space;
-    let first = engine::start(list, incoming, outgoing);
+    let first = step::start(list, incoming, outgoing);
     let mut here = first.run;
     let mut wanted = first.wanted;
     let mut left = replies.len() / 8;
@@ -69,7 +69,7 @@ fn run_replies(list: &[u8], replies: &[u8], outgoing: &[u8]) {
         }
         print_operation(here.operations, wanted);
         let end = at + 8;
-        let next = engine::step(list, here, incoming, outgoing, &replies[at..end]);
+        let next = step::step(list, here, incoming, outgoing, &replies[at..end]);
         here = next.run;
         wanted = next.wanted;
         at = end;

@@ -1,8 +1,8 @@
 // For a host in C: admission and the whole run, their answers as rows of numbers. include/camlist.h declares both.
-use run::Ran;
+use calls::Ran;
 use walk::Admission;
 ghost use mathlib.Core.Path.{_≡_};
-ghost use Rattle.run.specs.Calls.{numberOf, runOf, ranOf};
+ghost use Rattle.calls.specs.Calls.{numberOf, runOf, ranOf};
 ghost use Rattle.walk.specs.Admission.{admitOf, numbersOf};
 ghost use Rattle.host.specs.Numbers.{runNumbers};
 
@@ -26,6 +26,7 @@ fn run_numbers(r: Ran) -> [u64; 16]
 {
     let refusal = r.refusal;
     let run = r.run;
+    let spot = run.spot;
     let position = run.position;
     let marks = run.marks;
     let note = run.note;
@@ -34,7 +35,7 @@ fn run_numbers(r: Ran) -> [u64; 16]
         refusal.place as u64,
         r.taken as u64,
         number_of(run.ended),
-        run.instruction as u64,
+        spot.instruction as u64,
         run.left as u64,
         run.tries as u64,
         position.station as u64,
@@ -69,8 +70,9 @@ pub extern "C" fn camlist_run(
     replies: &[u8],
     answer: &mut [u64; 16],
 )
-    ensures { λ r. ⌜ (now (answer .exit) ≡ runNumbers (ranOf (runOf (now (list .entry)) (now (incoming .entry)) (now (outgoing .entry)) (now (replies .entry)))))
-        × (now (incoming .exit) ≡ runOf (now (list .entry)) (now (incoming .entry)) (now (outgoing .entry)) (now (replies .entry)) .state .incoming) ⌝ }
+    ensures answer { λ r. ⌜ now (answer .exit) ≡ runNumbers (ranOf (runOf (now (list .entry)) (now (incoming .entry)) (now (outgoing .entry)) (now (replies .entry)))) ⌝ }
+    ensures incoming { λ r. ⌜ now (incoming .exit) ≡ runOf (now (list .entry)) (now (incoming .entry)) (now (outgoing .entry)) (now (replies .entry)) .state .incoming ⌝ }
+    ensures outgoing { λ r. ⌜ now (outgoing .exit) ≡ runOf (now (list .entry)) (now (incoming .entry)) (now (outgoing .entry)) (now (replies .entry)) .state .outgoing ⌝ }
 {
-    *answer = run_numbers(rows::run_row(list, incoming, outgoing, replies));
+    *answer = run_numbers(whole_run::run_row(list, incoming, outgoing, replies));
 }

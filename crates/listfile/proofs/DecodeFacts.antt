@@ -1,35 +1,38 @@
 -- A list that refusals 1 to 10 don't refuse is sound: every check that could say otherwise came out false. Its try limit is 1 to 65,535,
 -- its instructions are at most 4,096, and each is as Sound says.
-use Prim.Native.Nat.{ℕ, zero, suc, _+_, _/_, _%_, _≤_, _<_}
+use Prim.Native.Nat.{ℕ, zero, suc, _+_, _%_, _≤_, _<_}
 use mathlib.Core.Path.{_≡_, refl, sym, ap, _∙_, subst}
 use mathlib.Core.Logic.{_⊎_, inl, inr}
 use mathlib.Core.Bool.{Bool, true, false, _&&_, _||_, not}
 use mathlib.Core.List.{List, [], _∷_}
 use mathlib.Core.Option.{Option, none, some}
 use native.Mathlib.Omega.{arith}
-use borrow.Author.Tests.{leb-true, leb-false, ltb-false, eq-eqb, eqb-false, not-false}
+use borrow.Author.Tests.{leb-true, ltb-false, eqb-false, not-false}
 use lib.Dec.{leb, ltb, eqb}
 use lib.ListN.{length}
-use Rattle.camac.specs.Checks.{if_then_else_, _gives_}
-use Rattle.camac.specs.Words.{modeIn, qmodeNumbered, qmodeIn, addressIn, wideIn, halfwords, blockWords, transferIn, commandIn, qmodeOf, addressOf, wordsOf, isScanIn, zeroBitSet, badAddress, badMode, badCount, aboveWord, badSecond, aboveP, camacFault, decodedBy, decodeOf}
-use Rattle.camac.specs.declared.QMode.{QMode}
-use Rattle.camac.specs.declared.QMode.the-variants.{Scan}
-use Rattle.camac.specs.declared.Address.{Address}
-use Rattle.camac.specs.declared.Transfer.{Transfer}
-use Rattle.camac.specs.declared.Command.{Command}
-use Rattle.camac.specs.declared.Decoded.{Decoded}
-use Rattle.camac.specs.declared.Decoded.the-variants.{Carried}
-use Rattle.camac.specs.declared.Decoded.the-variants as camac
-use Rattle.camac.proofs.Bools.{and-left, and-right, or-false-left, or-false-right, or-first}
-use Rattle.camac.proofs.Checks.{passed}
-use Rattle.listfile.specs.Bytes.{byteAt, shortAt, longAt, Bytes}
-use Rattle.listfile.specs.Fields.{bodyLength, nextField, tagAt, firstAt, secondAt, isUnknown, wrongLength, headFault, carriedBy, bodyOf, afterHead, fieldOf, firstFault, Field, Fields, faulty, fields, joined, fieldsFrom, firstBadJump, Program, program, afterJumps, afterFields, afterFirst, programOf}
-use Rattle.listfile.specs.declared.Instruction.{Instruction}
-use Rattle.listfile.specs.declared.Instruction.the-variants.{Camac, Jump, Literal, Halt}
-use Rattle.listfile.specs.declared.FieldRead.{FieldRead}
-use Rattle.listfile.specs.declared.FieldRead.the-variants.{Read, Refused}
-use Rattle.listfile.specs.declared.Tag.{Tag}
-use Rattle.listfile.specs.declared.Tag.the-variants.{CamacTag, JumpTag, LiteralTag, HaltTag, UnknownTag}
+use Rattle.base.specs.Checks.{if_then_else_, _gives_}
+use Rattle.camac.specs.Words.{modeIn, qmodeIn, addressIn, wideIn, halfwords, blockWords, transferIn, commandIn, qmodeOf, addressOf, wordsOf, isScanIn, zeroBitSet, badAddress, badMode, badCount, aboveWord, badSecond, aboveP, camacFault, decodedBy, decodeOf}
+use Rattle.camac.specs.Modes.{isScan}
+use Rattle.camac.specs.declared.modes.QMode.{QMode}
+use Rattle.camac.specs.declared.modes.QMode.the-variants.{Scan}
+use Rattle.camac.specs.declared.words.Address.{Address}
+use Rattle.camac.specs.declared.words.Transfer.{Transfer}
+use Rattle.camac.specs.declared.words.Command.{Command}
+use Rattle.camac.specs.declared.words.Decoded.{Decoded}
+use Rattle.camac.specs.declared.words.Decoded.the-variants.{Carried}
+use Rattle.camac.specs.declared.words.Decoded.the-variants as camac
+use Rattle.base.proofs.Bools.{and-left, and-right, or-false-left, or-false-right, or-first}
+use Rattle.base.proofs.Checks.{passed}
+use Rattle.base.specs.Bytes.{byteAt, shortAt, longAt, Bytes}
+use Rattle.listfile.specs.Fields.{bodyLength, nextField, tagAt, firstAt, secondAt, headFault, carriedBy, bodyOf, afterHead, fieldOf, firstFault, Field, Fields, faulty, fields, joined, fieldsFrom, firstBadJump, Program, program, afterJumps, afterFields, afterFirst, programOf}
+use Rattle.listfile.specs.declared.field.Instruction.{Instruction}
+use Rattle.listfile.specs.declared.field.Instruction.the-variants.{Camac, Jump, Literal, Halt}
+use Rattle.listfile.specs.declared.field.FieldRead.{FieldRead}
+use Rattle.listfile.specs.declared.field.FieldRead.the-variants.{Read, Refused}
+use Rattle.listfile.specs.declared.field.Tag.{Tag}
+use Rattle.listfile.specs.declared.field.Tag.the-variants.{CamacTag, JumpTag, LiteralTag, HaltTag, UnknownTag}
+use Rattle.listfile.proofs.FirstLaws.{first-limit}
+use Rattle.listfile.proofs.FieldLaws.{field-lies}
 use Rattle.listfile.proofs.Sound.{SoundScan, SoundCommand, SoundInstruction, SoundFields}
 
 -- Numbers ----------------------------------------------------------------------------------------------------------------
@@ -88,21 +91,15 @@ transfer-words (suc zero) q a wide second h e = block-words wide second h (or-fa
 transfer-words (suc (suc zero)) q a wide second h e = (omega arith, omega arith)
 transfer-words (suc (suc (suc k))) q a wide second h e = (omega arith, omega arith)
 
-scan-number : (x : ℕ) → x < 4 → qmodeNumbered x ≡ Scan → x ≡ 3
-scan-number zero h e = let z : _≡_ {A = ℕ} 0 1 = cc in absurd (omega arith)
-scan-number (suc zero) h e = let z : _≡_ {A = ℕ} 0 1 = cc in absurd (omega arith)
-scan-number (suc (suc zero)) h e = let z : _≡_ {A = ℕ} 0 1 = cc in absurd (omega arith)
-scan-number (suc (suc (suc k))) h e = omega arith
-
 -- a scan that passes 7 and 9
 scan-sound : (first : ℕ) (t : Transfer) → addressOf t ≡ addressIn first → badAddress first ≡ false → (isScanIn first && aboveP t) ≡ false
     → qmodeIn first ≡ Scan → SoundScan t
 unfolding addressIn
 scan-sound first t same address far q =
-    let n : ℕ = first / 33554432 % 32 in
-    let crate : ℕ = first / 256 % 64 in
+    let n : ℕ = addressIn first .station in
+    let crate : ℕ = addressIn first .«crate_number» in
     let known : Bool = (leb 1 n && leb n 23) || eqb n 30 in
-    let scan : isScanIn first ≡ true = eq-eqb (first / 8 % 4) 3 (scan-number (first / 8 % 4) (omega arith) q) in
+    let scan : isScanIn first ≡ true = ap isScan q in
     let station : (not known || (isScanIn first && eqb n 30)) ≡ false = or-false-right (not (leb 1 crate && leb crate 62)) _ address in
     let other : eqb n 30 ≡ false = rw scan at (or-false-right (not known) _ station) in
     let within : leb 1 n && leb n 23 ≡ true = or-first _ (eqb n 30) other (not-false known (or-false-left _ _ station)) in
@@ -153,7 +150,6 @@ body-sound LiteralTag list at i hb e = let same : Literal (longAt list (at + 3))
 body-sound HaltTag list at i hb e = let same : Halt ≡ i = cc in subst SoundInstruction same tt
 body-sound UnknownTag list at i hb e = let z : _≡_ {A = ℕ} 0 1 = cc in absurd (omega arith)
 
--- a field that is read: fewer than 4,096 instructions stand before it, and its own is sound
 field-sound : (list : List ℕ) (at count : ℕ) (i : Instruction) → Bytes list → fieldOf list at count ≡ Read i → SoundInstruction i
 unfolding fieldOf
 field-sound list at count i hb e = go (headFault list at count) e
@@ -161,19 +157,6 @@ field-sound list at count i hb e = go (headFault list at count) e
     go : (n : ℕ) → afterHead n (bodyOf (tagAt list at) list at) ≡ Read i → SoundInstruction i
     go zero e = body-sound (tagAt list at) list at i hb e
     go (suc n) e = let z : _≡_ {A = ℕ} 0 1 = cc in absurd (omega arith)
-
-field-count : (list : List ℕ) (at count : ℕ) (i : Instruction) → fieldOf list at count ≡ Read i → count < 4096
-unfolding fieldOf headFault
-field-count list at count i e = go (headFault list at count) refl e
-  where
-    go : (n : ℕ) → headFault list at count ≡ n → afterHead n (bodyOf (tagAt list at) list at) ≡ Read i → count < 4096
-    go zero q e =
-        let c = passed
-        (ltb (length list) (at + 3) gives 1 ∷ ltb (length list) (nextField list at) gives 1 ∷ leb 4096 count gives 5
-        ∷ isUnknown (tagAt list at) gives 3 ∷ wrongLength (tagAt list at) (bodyLength list at) gives 4 ∷ [])
-        (omega arith) q in
-        leb-false 4096 count (c .1 .1 .0)
-    go (suc n) q e = let z : _≡_ {A = ℕ} 0 1 = cc in absurd (omega arith)
 
 -- All fields -------------------------------------------------------------------------------------------------------------
 
@@ -230,7 +213,7 @@ fields-count (suc fuel) list at count fs h e =
         → count + length fs ≤ 4096
     go (inl none-left) ih = rw none-left (omega arith)
     go (inr x) ih =
-        let below : count < 4096 = field-count list at count (x .instruction) (x .read) in
+        let below : count < 4096 = field-lies list at count (x .instruction) (x .read) .few in
         let others : count + 1 + length (x .others) ≤ 4096 = ih (x .others) (omega arith) (x .after) in
         rw (← x .row) (omega arith)
 
@@ -241,17 +224,6 @@ record Listing (list : List ℕ) (p : Program) : Type 0 where
   limit : shortAt list 5 ≡ p .limit
   limit-least : 1 ≤ shortAt list 5
   rest : fieldsFrom (length list) list 7 0 ≡ fields (p .fields)
-
-first-limit : (list : List ℕ) → firstFault list ≡ 0 → 1 ≤ shortAt list 5
-unfolding firstFault
-first-limit list e =
-    let body : Bool = eqb (byteAt list 3) 1 && (eqb (byteAt list 4) 0 && leb 1 (shortAt list 5)) in
-    let right : Bool = eqb (byteAt list 0) 1 && (eqb (bodyLength list 0) 4 && body) in
-    let c = passed
-    (eqb (length list) 0 gives 2 ∷ ltb (length list) 3 gives 1 ∷ ltb (length list) (3 + bodyLength list 0) gives 1 ∷ not right gives 2 ∷ [])
-    (omega arith) e in
-    let body-right : body ≡ true = and-right (eqb (bodyLength list 0) 4) _ (and-right (eqb (byteAt list 0) 1) _ (not-false right (c .1 .1 .1 .0))) in
-    leb-true 1 (shortAt list 5) (and-right (eqb (byteAt list 4) 0) _ (and-right (eqb (byteAt list 3) 1) _ body-right))
 
 listing : (list : List ℕ) (p : Program) → programOf list ≡ program p → Listing list p
 unfolding programOf

@@ -1,83 +1,37 @@
--- One field's checks by the first that holds, each law with one fact more than the one before it; and what a field that is read shows: it
--- lies in the list, it is one of the first 4,096, its body is at most eight bytes, and read again without checks it is the same.
+-- One field's checks by their places; and what a field that is read shows: it lies in the list, it is one of the first 4,096, its body is
+-- at most eight bytes, and read again without checks it is the same.
 use Prim.Native.Nat.{ℕ, zero, suc, _+_, _≤_, _<_}
-use mathlib.Core.Path.{_≡_, refl, _∙_}
+use mathlib.Core.Path.{_≡_, refl, sym, _∙_}
 use mathlib.Core.Bool.{Bool, true, false, _||_, true≢false}
-use mathlib.Core.List.{List, [], _∷_}
+use mathlib.Core.List.{List}
 use native.Mathlib.Omega.{arith}
-use borrow.Author.Tests.{le-leb, lt-leb, le-ltb, lt-ltb, ltb-false, leb-false, eqb-true, not-false}
-use lib.Dec.{eqb, leb, ltb}
-use lib.ListN.{length}
-use Rattle.camac.specs.Checks.{_gives_, firstOf}
+use borrow.Author.Tests.{le-ltb, lt-ltb, ltb-false, leb-false, eqb-true, not-false}
+use lib.Dec.{eqb}
+use lib.ListN.{length, drop}
+use Rattle.base.proofs.Checks.{passed, FirstAt, numberAt, first-at}
 use Rattle.camac.specs.Words.{commandIn, camacFault, decodedBy, decodeOf}
-use Rattle.camac.specs.declared.Command.{Command}
-use Rattle.listfile.specs.Bytes.{shortAt}
-use Rattle.listfile.specs.Fields.{bodyLength, nextField, tagAt, firstAt, secondAt, isUnknown, wrongLength, headFault, carriedBy, bodyOf, afterHead, fieldOf}
-use Rattle.listfile.specs.Table.{instructionBy, instructionAt}
-use Rattle.listfile.specs.declared.Instruction.{Instruction}
-use Rattle.listfile.specs.declared.Instruction.the-variants.{Camac}
-use Rattle.listfile.specs.declared.FieldRead.{FieldRead}
-use Rattle.listfile.specs.declared.FieldRead.the-variants.{Read, Refused}
-use Rattle.listfile.specs.declared.Tag.{Tag}
-use Rattle.listfile.specs.declared.Tag.the-variants.{CamacTag, JumpTag, LiteralTag, HaltTag, UnknownTag}
+use Rattle.camac.specs.declared.words.Command.{Command}
+use Rattle.listfile.specs.Fields.{bodyLength, nextField, tagAt, firstAt, secondAt, wrongLength, headChecks, headFault, carriedBy, bodyOf, afterHead, fieldOf}
+use Rattle.listfile.specs.model.Table.{instructionBy, instructionAt}
+use Rattle.listfile.specs.declared.field.Instruction.{Instruction}
+use Rattle.listfile.specs.declared.field.Instruction.the-variants.{Camac}
+use Rattle.listfile.specs.declared.field.FieldRead.{FieldRead}
+use Rattle.listfile.specs.declared.field.FieldRead.the-variants.{Read, Refused}
+use Rattle.listfile.specs.declared.field.Tag.{Tag}
+use Rattle.listfile.specs.declared.field.Tag.the-variants.{CamacTag, JumpTag, LiteralTag, HaltTag, UnknownTag}
 
 -- Refusals 1, 5, 3 and 4 ---------------------------------------------------------------------------------------------------
 
-module _ (list : List ℕ) (at count : ℕ) where
-  pub head-1 : length list < at + 3 → 1 ≡ headFault list at count
-  unfolding headFault
-  head-1 h = rw (lt-ltb (length list) (at + 3) h)
+pub head-by : (list : List ℕ) (at count k : ℕ) → FirstAt k (headChecks list at count)
+    → numberAt k (headChecks list at count) ≡ headFault list at count
+unfolding headFault
+head-by list at count k h = sym (first-at k (headChecks list at count) h)
 
-  module _ (head : at + 3 ≤ length list) (len : ℕ) (el : len ≡ shortAt list (at + 1)) where
-    pub head-1-body : length list < at + 3 + len → 1 ≡ headFault list at count
-    unfolding headFault
-    head-1-body h = rw (le-ltb (length list) (at + 3) head, ← el, lt-ltb (length list) (at + 3 + len) h)
-
-    module _ (body : at + 3 + len ≤ length list) where
-      pub head-5 : 4096 ≤ count → 5 ≡ headFault list at count
-      unfolding headFault
-      head-5 h =
-          rw (le-ltb (length list) (at + 3) head, ← el, le-ltb (length list) (at + 3 + len) body, le-leb 4096 count h)
-
-      module _ (few : count < 4096) (tag : Tag) (et : tag ≡ tagAt list at) where
-        pub head-3 : isUnknown tag ≡ true → 3 ≡ headFault list at count
-        unfolding headFault
-        head-3 h =
-            rw (
-              ← et,
-              le-ltb (length list) (at + 3) head,
-              ← el,
-              le-ltb (length list) (at + 3 + len) body,
-              lt-leb 4096 count few,
-              h,
-            )
-
-        module _ (known : isUnknown tag ≡ false) where
-          pub head-4 : wrongLength tag len ≡ true → 4 ≡ headFault list at count
-          unfolding headFault
-          head-4 h =
-              rw (
-                ← et,
-                le-ltb (length list) (at + 3) head,
-                ← el,
-                le-ltb (length list) (at + 3 + len) body,
-                lt-leb 4096 count few,
-                known,
-                h,
-              )
-
-          pub head-0 : wrongLength tag len ≡ false → 0 ≡ headFault list at count
-          unfolding headFault
-          head-0 h =
-              rw (
-                ← et,
-                le-ltb (length list) (at + 3) head,
-                ← el,
-                le-ltb (length list) (at + 3 + len) body,
-                lt-leb 4096 count few,
-                known,
-                h,
-              )
+-- where the field lies in the list, the checks behind the first two decide
+pub head-inside : (list : List ℕ) (at count k : ℕ) → nextField list at ≤ length list → FirstAt k (drop 2 (headChecks list at count))
+    → numberAt k (drop 2 (headChecks list at count)) ≡ headFault list at count
+head-inside list at count k h f =
+    head-by list at count (suc (suc k)) (le-ltb (length list) (at + 3) (omega arith), (le-ltb (length list) (nextField list at) h, f))
 
 -- A field's answer ---------------------------------------------------------------------------------------------------------
 
@@ -89,6 +43,10 @@ field-refused list at count f e h = rw (← e) (go f h)
     go : (f : ℕ) → ¬ (f ≡ 0) → Refused f ≡ afterHead f (bodyOf (tagAt list at) list at)
     go zero h = absurd (h refl)
     go (suc f) h = refl
+
+pub field-past : (list : List ℕ) (at count : ℕ) → length list ≤ at → Refused 1 ≡ fieldOf list at count
+field-past list at count h =
+    field-refused list at count 1 (head-by list at count 0 (lt-ltb (length list) (at + 3) (omega arith))) (λ e. omega arith)
 
 pub field-body : (list : List ℕ) (at count f : ℕ) → f ≡ headFault list at count → f ≡ 0 → (tag : Tag)
     → tag ≡ tagAt list at → (r : FieldRead) → r ≡ bodyOf tag list at → r ≡ fieldOf list at count
@@ -108,15 +66,6 @@ length-small LiteralTag len e = omega (arith, eqb-true len 4 (not-false _ e))
 length-small HaltTag len e = omega (arith, eqb-true len 0 (not-false _ e))
 length-small UnknownTag len e = absurd (true≢false e)
 
-none-holds : (a b c d e : Bool) → firstOf (a gives 1 ∷ b gives 1 ∷ c gives 5 ∷ d gives 3 ∷ e gives 4 ∷ []) ≡ 0
-    → (b ≡ false) × (c ≡ false) × (e ≡ false)
-none-holds true b c d e h = absurd (omega arith)
-none-holds false true c d e h = absurd (omega arith)
-none-holds false false true d e h = absurd (omega arith)
-none-holds false false false true e h = absurd (omega arith)
-none-holds false false false false true h = absurd (omega arith)
-none-holds false false false false false h = (refl, refl, refl)
-
 pub record Lies (list : List ℕ) (at count : ℕ) : Type 0 where
   pub inside : at + 3 + bodyLength list at ≤ length list
   pub few : count < 4096
@@ -134,12 +83,11 @@ read-head list at count i e = go (headFault list at count) e
 pub field-lies : (list : List ℕ) (at count : ℕ) (i : Instruction) → fieldOf list at count ≡ Read i → Lies list at count
 unfolding headFault
 field-lies list at count i e =
-    let h = none-holds (ltb (length list) (at + 3)) (ltb (length list) (nextField list at)) (leb 4096 count) (isUnknown (tagAt list at))
-    (wrongLength (tagAt list at) (bodyLength list at)) (read-head list at count i e) in
+    let c = passed (headChecks list at count) (omega arith) (read-head list at count i e) in
     record {
-      inside = ltb-false (length list) (nextField list at) (h .0);
-      few = leb-false 4096 count (h .1);
-      short = length-small (tagAt list at) (bodyLength list at) (h .2);
+      inside = ltb-false (length list) (nextField list at) (c .1 .0);
+      few = leb-false 4096 count (c .1 .1 .0);
+      short = length-small (tagAt list at) (bodyLength list at) (c .1 .1 .1 .1 .0);
     }
 
 body-again : (tag : Tag) (list : List ℕ) (at : ℕ) (i : Instruction) → bodyOf tag list at ≡ Read i

@@ -3,14 +3,14 @@ use Prim.Native.Nat.{ℕ, zero, suc, _≤_}
 use mathlib.Core.Path.{_≡_, refl, subst}
 use mathlib.Core.List.{List}
 use lib.ListN.{length}
-use Rattle.listfile.specs.Bytes.{shortAt}
+use Rattle.base.specs.Bytes.{shortAt}
 use Rattle.listfile.specs.Fields.{firstFault, fieldsFrom, fields, firstBadJump, refused, program, afterFirst, programOf}
-use Rattle.listfile.specs.Table.{firstFields, TableRight, fieldsBy, TableBy, refusalIn, badJumpBy}
-use Rattle.listfile.specs.declared.Refusal.{Refusal}
-use Rattle.listfile.specs.declared.Pass.{Pass}
-use Rattle.listfile.specs.declared.Pass.the-variants as pass
-use Rattle.listfile.specs.declared.Jumps.{Jumps}
-use Rattle.listfile.specs.declared.Jumps.the-variants.{BadAt, Right}
+use Rattle.listfile.specs.model.Table.{firstFields, TableRight, fieldsBy, TableBy, refusalIn, badJumpBy}
+use Rattle.base.specs.declared.Refusal.{Refusal}
+use Rattle.listfile.specs.declared.check.Pass.{Pass}
+use Rattle.listfile.specs.declared.check.Pass.the-variants as pass
+use Rattle.listfile.specs.declared.check.Jumps.{Jumps}
+use Rattle.listfile.specs.declared.check.Jumps.the-variants.{BadAt, Right}
 use Rattle.listfile.proofs.PassLaws.{count-fields}
 
 pub list-first : (list : List ℕ) (f : ℕ) → f ≡ firstFault list → ¬ (f ≡ 0)

@@ -13,10 +13,10 @@ use borrow.Author.Tests.{le-leb, lt-leb}
 use lib.ListN.{length, getD, set, drop, length-append, List·getD-append}
 use lib.Seq.{getD-set-same, getD-set-other, drop-cons, drop-nil, getD-append-seam}
 use Rattle.listfile.specs.Fields.{nextField, fieldOf, numberOf, Field, Fields, faulty, fields, ahead, fieldsFrom, badTarget, firstBadJump}
-use Rattle.listfile.specs.Table.{instructionAt, placeOf, firstFields, TableRight}
-use Rattle.listfile.specs.declared.Instruction.{Instruction}
-use Rattle.listfile.specs.declared.FieldRead.{FieldRead}
-use Rattle.listfile.specs.declared.FieldRead.the-variants.{Read, Refused}
+use Rattle.listfile.specs.model.Table.{instructionAt, placeOf, firstFields, TableRight}
+use Rattle.listfile.specs.declared.field.Instruction.{Instruction}
+use Rattle.listfile.specs.declared.field.FieldRead.{FieldRead}
+use Rattle.listfile.specs.declared.field.FieldRead.the-variants.{Read, Refused}
 use Rattle.listfile.proofs.FieldLaws.{read-again}
 
 one-less : (k : ℕ) → k ≡ suc k - 1

@@ -4,12 +4,12 @@ use mathlib.Core.Path.{_≡_}
 use mathlib.Core.List.{List, [], _∷_}
 use Rattle.camac.specs.Scan.{positions}
 use Rattle.camac.specs.Words.{qmodeOf, addressOf, wordsOf, positionOf}
-use Rattle.camac.specs.declared.QMode.the-variants.{Scan}
-use Rattle.camac.specs.declared.Transfer.{Transfer}
-use Rattle.camac.specs.declared.Command.{Command}
+use Rattle.camac.specs.declared.modes.QMode.the-variants.{Scan}
+use Rattle.camac.specs.declared.words.Transfer.{Transfer}
+use Rattle.camac.specs.declared.words.Command.{Command}
 use Rattle.listfile.specs.Fields.{Field}
-use Rattle.listfile.specs.declared.Instruction.{Instruction}
-use Rattle.listfile.specs.declared.Instruction.the-variants.{Camac, Jump, Literal, Halt}
+use Rattle.listfile.specs.declared.field.Instruction.{Instruction}
+use Rattle.listfile.specs.declared.field.Instruction.the-variants.{Camac, Jump, Literal, Halt}
 
 -- a scan begins at a station from 1 to 23 and has a position for each word
 pub record SoundScan (t : Transfer) : Type 0 where

@@ -1,24 +1,24 @@
 -- The list file (document 01, "The list file"; refusals 1 to 5 and 10 of "Who can cause which refusal", 6 to 9 by the crate camac).
 -- `at` is the place of a field, its first byte; `count` is how many instructions stand before it.
-use Prim.Native.Nat.{ℕ, zero, suc, _+_}
+use Prim.Native.Nat.{ℕ, zero, suc, _+_, min}
 use mathlib.Core.Bool.{Bool, true, false, _&&_, _||_, not}
 use mathlib.Core.List.{List, [], _∷_}
 use mathlib.Core.Option.{Option, none, some}
 use lib.Dec.{leb, ltb, eqb}
 use lib.ListN.{length}
-use Rattle.camac.specs.Checks.{if_then_else_, _gives_, firstOf}
+use Rattle.base.specs.Checks.{if_then_else_, Check, _gives_, firstOf}
 use Rattle.camac.specs.Words.{decodeOf}
-use Rattle.camac.specs.declared.Decoded.{Decoded}
-use Rattle.camac.specs.declared.Decoded.the-variants.{Carried}
-use Rattle.camac.specs.declared.Decoded.the-variants as camac
-use Rattle.listfile.specs.Bytes.{byteAt, shortAt, longAt}
-use Rattle.listfile.specs.declared.Refusal.{Refusal}
-use Rattle.listfile.specs.declared.Instruction.{Instruction}
-use Rattle.listfile.specs.declared.Instruction.the-variants.{Camac, Jump, Literal, Halt}
-use Rattle.listfile.specs.declared.FieldRead.{FieldRead}
-use Rattle.listfile.specs.declared.FieldRead.the-variants.{Read, Refused}
-use Rattle.listfile.specs.declared.Tag.{Tag}
-use Rattle.listfile.specs.declared.Tag.the-variants.{CamacTag, JumpTag, LiteralTag, HaltTag, UnknownTag}
+use Rattle.camac.specs.declared.words.Decoded.{Decoded}
+use Rattle.camac.specs.declared.words.Decoded.the-variants.{Carried}
+use Rattle.camac.specs.declared.words.Decoded.the-variants as camac
+use Rattle.base.specs.Bytes.{byteAt, shortAt, longAt}
+use Rattle.base.specs.declared.Refusal.{Refusal}
+use Rattle.listfile.specs.declared.field.Instruction.{Instruction}
+use Rattle.listfile.specs.declared.field.Instruction.the-variants.{Camac, Jump, Literal, Halt}
+use Rattle.listfile.specs.declared.field.FieldRead.{FieldRead}
+use Rattle.listfile.specs.declared.field.FieldRead.the-variants.{Read, Refused}
+use Rattle.listfile.specs.declared.field.Tag.{Tag}
+use Rattle.listfile.specs.declared.field.Tag.the-variants.{CamacTag, JumpTag, LiteralTag, HaltTag, UnknownTag}
 
 -- One field --------------------------------------------------------------------------------------------------------------
 
@@ -28,6 +28,10 @@ bodyLength list at = shortAt list (at + 1)
 
 abbrev pub nextField : List ℕ → ℕ → ℕ
 nextField list at = at + 3 + bodyLength list at
+
+-- where a reader comes to behind the field at an offset: the next field, or the list's end where the field runs past it
+abbrev pub placeAfter : List ℕ → ℕ → ℕ
+placeAfter list at = min (nextField list at) (length list)
 
 -- "10h CAMAC instruction", "20h jump", "21h literal longword", "2Fh halt"
 abbrev pub tagOf : ℕ → Tag
@@ -64,15 +68,19 @@ wrongLength LiteralTag len = not (eqb len 4)
 wrongLength HaltTag len = not (eqb len 0)
 wrongLength UnknownTag len = true
 
--- 1, 5, 3 and 4, in the order listed; 0 where none applies. 2 is the first field's.
-unfoldable pub headFault : List ℕ → ℕ → ℕ → ℕ
-headFault list at count = firstOf (
+-- 1, 5, 3 and 4, in the order listed; 2 is the first field's
+abbrev pub headChecks : List ℕ → ℕ → ℕ → List Check
+headChecks list at count =
     ltb (length list) (at + 3) gives 1
     ∷ ltb (length list) (nextField list at) gives 1
     ∷ leb 4096 count gives 5
     ∷ isUnknown (tagAt list at) gives 3
     ∷ wrongLength (tagAt list at) (bodyLength list at) gives 4
-    ∷ [])
+    ∷ []
+
+-- the first of them that applies; 0 where none does
+unfoldable pub headFault : List ℕ → ℕ → ℕ → ℕ
+headFault list at count = firstOf (headChecks list at count)
 
 abbrev pub carriedBy : Decoded → FieldRead
 carriedBy (Carried c) = Read (Camac c)
@@ -104,14 +112,23 @@ abbrev pub numberOf : FieldRead → ℕ
 numberOf (Read i) = 0
 numberOf (Refused number) = number
 
--- "01h: format 1, a zero byte, R (two bytes, 1 to 65,535). First field, once". 2: "no field, or the first isn't as in the table"
-unfoldable pub firstFault : List ℕ → ℕ
-firstFault list = firstOf (
+-- "01h", "format 1, a zero byte"
+abbrev pub isFirst : List ℕ → Bool
+isFirst list = eqb (byteAt list 0) 1 && eqb (byteAt list 3) 1 && eqb (byteAt list 4) 0
+
+-- 1 of the first field, and 2: "no field, or the first isn't as in the table", length "4", "R (two bytes, 1 to 65,535)"
+abbrev pub firstChecks : List ℕ → List Check
+firstChecks list =
     eqb (length list) 0 gives 2
     ∷ ltb (length list) 3 gives 1
-    ∷ ltb (length list) (3 + bodyLength list 0) gives 1
-    ∷ not (eqb (byteAt list 0) 1 && (eqb (bodyLength list 0) 4 && (eqb (byteAt list 3) 1 && (eqb (byteAt list 4) 0 && leb 1 (shortAt list 5))))) gives 2
-    ∷ [])
+    ∷ ltb (length list) (nextField list 0) gives 1
+    ∷ not (eqb (bodyLength list 0) 4) gives 2
+    ∷ ltb (shortAt list 5) 1 gives 2
+    ∷ not (isFirst list) gives 2
+    ∷ []
+
+unfoldable pub firstFault : List ℕ → ℕ
+firstFault list = firstOf (firstChecks list)
 
 -- All fields -------------------------------------------------------------------------------------------------------------
 

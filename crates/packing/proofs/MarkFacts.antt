@@ -1,20 +1,17 @@
 -- Fill marks never fall, stay even, and have a closed form over the words: a pad can come before the first word only.
 -- What is stored lies between the mark and the mark after it.
 use Prim.Native.Nat.{ℕ, zero, suc, _+_, _*_, _%_, _≤_, _<_}
-use mathlib.Core.Path.{_≡_, refl, _∙_}
+use mathlib.Core.Path.{_≡_, refl}
 use mathlib.Core.Bool.{Bool, true, false}
-use mathlib.Core.List.{List, [], _∷_, _++_}
+use mathlib.Core.List.{List, _++_}
 use native.Mathlib.Omega.{arith}
 use borrow.Author.Tests.{ne-eqb, eqb-true, eqb-false}
 use lib.Dec.{eqb}
 use lib.ListN.{length, getD, replicate, length-append, length-replicate}
-use lib.Seq.{sets, length-sets, getD-set-other}
+use lib.Seq.{length-sets}
+use Rattle.base.proofs.Puts.{sets-other}
+use Rattle.base.proofs.Tests.{on}
 use Rattle.packing.specs.Packing.{padAt, alignedMark, widthOf, markAfter, markAfterWords, bytesOf, stored}
-
--- both cases of a test, each with what it came out as
-on : {C : Type 0} (b : Bool) → (b ≡ true → C) → (b ≡ false → C) → C
-on true f g = f refl
-on false f g = g refl
 
 pub mark-grows : (wide : Bool) (m : ℕ) → m ≤ markAfter wide m
 unfolding markAfter alignedMark
@@ -50,14 +47,6 @@ unfolding markAfterWords markAfter alignedMark
 words-closed wide zero m = omega arith
 words-closed wide (suc n) m = rw (words-closed wide n m) (word-more wide n m)
 
-sets-beyond : (l : List ℕ) (i : ℕ) (vs : List ℕ) (j : ℕ) → i + length vs ≤ j → getD (sets l i vs) j 0 ≡ getD l j 0
-sets-beyond l i [] j h = refl
-sets-beyond l i (v ∷ vs) j h = sets-beyond _ (suc i) vs j (omega arith) ∙ getD-set-other l i j v 0 (omega arith)
-
-sets-below : (l : List ℕ) (i : ℕ) (vs : List ℕ) (j : ℕ) → j < i → getD (sets l i vs) j 0 ≡ getD l j 0
-sets-below l i [] j h = refl
-sets-below l i (v ∷ vs) j h = sets-below _ (suc i) vs j (omega arith) ∙ getD-set-other l i j v 0 (omega arith)
-
 bytes-length : (wide : Bool) (v : ℕ) → length (bytesOf wide v) ≡ widthOf wide
 unfolding widthOf
 bytes-length true v = refl
@@ -71,8 +60,8 @@ pub stored-beyond : (wide : Bool) (v m : ℕ) (buffer : List ℕ) (i : ℕ)
     → markAfter wide m ≤ i → getD (stored wide v m buffer) i 0 ≡ getD buffer i 0
 unfolding stored markAfter alignedMark
 stored-beyond wide v m buffer i h =
-    sets-beyond buffer m (replicate (padAt wide m) 0 ++ bytesOf wide v) i
-    (omega (
+    sets-other buffer m (replicate (padAt wide m) 0 ++ bytesOf wide v) i
+    (λ _. omega (
       arith,
       length-append (replicate (padAt wide m) 0) (bytesOf wide v),
       length-replicate {A = ℕ} (padAt wide m) 0,
@@ -82,4 +71,4 @@ stored-beyond wide v m buffer i h =
 pub stored-below : (wide : Bool) (v m : ℕ) (buffer : List ℕ) (i : ℕ)
     → i < m → getD (stored wide v m buffer) i 0 ≡ getD buffer i 0
 unfolding stored
-stored-below wide v m buffer i h = sets-below buffer m (replicate (padAt wide m) 0 ++ bytesOf wide v) i h
+stored-below wide v m buffer i h = sets-other buffer m (replicate (padAt wide m) 0 ++ bytesOf wide v) i (λ g. absurd (omega arith))

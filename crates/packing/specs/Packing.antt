@@ -1,11 +1,12 @@
 -- Fill marks and the bytes of words (document 01, "Packing"; the driver manual's "Data FIFO Register").
-use Prim.Native.Nat.{ℕ, zero, suc, _+_, _*_, _/_, _%_}
+use Prim.Native.Nat.{ℕ, zero, suc, _+_, _*_, _%_}
 use mathlib.Core.Bool.{Bool, true, false}
-use mathlib.Core.List.{List, [], _∷_, _++_}
+use mathlib.Core.List.{List, _++_}
 use lib.Dec.{eqb}
 use lib.ListN.{replicate, getD}
 use lib.Seq.{sets}
-use Rattle.camac.specs.Checks.{if_then_else_}
+use Rattle.base.specs.Bytes.{shortBytes, longBytes}
+use Rattle.base.specs.Checks.{if_then_else_}
 
 -- "If the mark modulo 4 is 2, two zero bytes come first": before a 24-bit word or a literal
 unfoldable pub padAt : Bool → ℕ → ℕ
@@ -30,8 +31,8 @@ markAfterWords wide (suc n) mark = markAfter wide (markAfterWords wide n mark)
 
 -- "low byte first": the four bytes of a longword, or the two of its low 16 bits
 abbrev pub bytesOf : Bool → ℕ → List ℕ
-bytesOf true v = v % 256 ∷ v / 256 % 256 ∷ v / 65536 % 256 ∷ v / 16777216 % 256 ∷ []
-bytesOf false v = v % 256 ∷ v / 256 % 256 ∷ []
+bytesOf true v = longBytes v
+bytesOf false v = shortBytes v
 
 -- a longword, or the low 16 bits of one, "at the fill mark", its pad "written together with that word and not before"; every other
 -- byte of the buffer stays

@@ -1,10 +1,8 @@
 // Packing: fill marks, and the bytes of words and literals in the host's buffers.
 ghost use mathlib.Core.Path.{_≡_};
-ghost use Prim.Native.Nat.{_+_, _*_, _/_, _%_, _≤_, _<_};
-ghost use mathlib.Core.Bool.{true, false};
-ghost use lib.ListN.{length, getD};
-ghost use lib.Seq.{sets};
-ghost use Rattle.packing.specs.Packing.{padAt, alignedMark, widthOf, markAfter, markAfterWords, bytesOf, stored, wordAt};
+ghost use Prim.Native.Nat.{_+_, _%_, _<_, _≤_};
+ghost use lib.ListN.{length};
+ghost use Rattle.packing.specs.Packing.{padAt, alignedMark, widthOf, markAfter, markAfterWords, stored, wordAt};
 
 // The two fill marks: the bytes used so far of the incoming and of the outgoing buffer.
 pub struct Marks {
@@ -63,30 +61,6 @@ pub fn mark_after_words(wide: bool, words: u64, mark: u64) -> u64
     mark + words * 2
 }
 
-fn low(v: u32) -> u8
-    ensures { λ r. ⌜ r ≡ v % 256 ⌝ }
-{
-    (v % 256) as u8
-}
-
-fn put_two(buffer: &mut [u8], at: usize, v: u32)
-    requires { ⌜ at + 2 ≤ length (now buffer) ⌝ }
-    ensures { λ r. ⌜ now (buffer .exit) ≡ sets (now (buffer .entry)) at (bytesOf false v) ⌝ }
-{
-    buffer[at] = low(v);
-    buffer[at + 1] = low(v / 256);
-}
-
-fn put_four(buffer: &mut [u8], at: usize, v: u32)
-    requires { ⌜ at + 4 ≤ length (now buffer) ⌝ }
-    ensures { λ r. ⌜ now (buffer .exit) ≡ sets (now (buffer .entry)) at (bytesOf true v) ⌝ }
-{
-    buffer[at] = low(v);
-    buffer[at + 1] = low(v / 256);
-    buffer[at + 2] = low(v / 65536);
-    buffer[at + 3] = low(v / 16777216);
-}
-
 // A word or literal at the mark, behind its pad. The room is there: no mark passes B, and admission holds B against the buffer.
 pub fn store(buffer: &mut [u8], mark: usize, wide: bool, v: u32)
     requires { ⌜ markAfter wide mark ≤ length (now buffer) ⌝ }
@@ -94,27 +68,14 @@ pub fn store(buffer: &mut [u8], mark: usize, wide: bool, v: u32)
 {
     if wide {
         if mark % 4 == 2 {
-            put_two(buffer, mark, 0);
-            put_four(buffer, mark + 2, v);
+            base::put_short(buffer, mark, 0);
+            base::put_long(buffer, mark + 2, v);
         } else {
-            put_four(buffer, mark, v);
+            base::put_long(buffer, mark, v);
         }
     } else {
-        put_two(buffer, mark, v);
+        base::put_short(buffer, mark, v);
     }
-}
-
-// The byte at a place, zero past the end.
-pub fn byte_at(buffer: &[u8], i: usize) -> u8
-    ensures { λ r. ⌜ r ≡ getD (now (buffer .entry)) i 0 ⌝ }
-{
-    if i < buffer.len() { buffer[i] } else { 0 }
-}
-
-fn extended(x: u8) -> u32
-    ensures { λ r. ⌜ (r ≡ x) × (r < 256) ⌝ }
-{
-    x as u32
 }
 
 // The outgoing word at the mark. Every mark is below 2^63: it counts bytes of a buffer.
@@ -123,9 +84,10 @@ pub fn fetch(buffer: &[u8], mark: usize, wide: bool) -> u32
     ensures { λ r. ⌜ (r ≡ wordAt wide mark (now (buffer .entry))) × (r < 16777216) ⌝ }
 {
     let at = aligned_mark(wide, mark);
-    let low = extended(byte_at(buffer, at)) + extended(byte_at(buffer, at + 1)) * 256;
+    let low = base::u32_of(base::byte_at(buffer, at))
+        + base::u32_of(base::byte_at(buffer, at + 1)) * 256;
     if wide {
-        return low + extended(byte_at(buffer, at + 2)) * 65536;
+        return low + base::u32_of(base::byte_at(buffer, at + 2)) * 65536;
     }
     low
 }

@@ -1,8 +1,9 @@
+pub mod Spots
 pub mod SumLaws
 pub mod TableFields
 pub mod WalkLaws
 pub mod PrepareLaws
-pub mod Visits
+pub mod Halting
 pub mod MarksGrow
 pub mod Eleven
 pub mod Rest

@@ -6,13 +6,13 @@ use mathlib.Core.List.{List, [], _∷_, _++_}
 use native.Mathlib.Nat.{le-refl, le-trans}
 use native.Mathlib.Decide.{le-ind}
 use Rattle.camac.specs.Words.{wordsOf, directionOf}
-use Rattle.camac.specs.declared.Command.{Command}
-use Rattle.camac.specs.declared.Direction.{Direction}
-use Rattle.camac.specs.declared.Direction.the-variants.{Incoming, Outgoing, Neither}
+use Rattle.camac.specs.declared.words.Command.{Command}
+use Rattle.camac.specs.declared.words.Direction.{Direction}
+use Rattle.camac.specs.declared.words.Direction.the-variants.{Incoming, Outgoing, Neither}
 use Rattle.packing.specs.declared.Marks.{Marks}
 use Rattle.packing.proofs.MarkFacts.{mark-grows, mark-even}
-use Rattle.listfile.specs.declared.Instruction.{Instruction}
-use Rattle.listfile.specs.declared.Instruction.the-variants.{Camac, Jump, Literal, Halt}
+use Rattle.listfile.specs.declared.field.Instruction.{Instruction}
+use Rattle.listfile.specs.declared.field.Instruction.the-variants.{Camac, Jump, Literal, Halt}
 use Rattle.walk.specs.Walk.{Visit, noMarks, movedBy, moved, movedWords, marksAfter, marksOver}
 
 -- Marks over a walk in two parts -----------------------------------------------------------------------------------------

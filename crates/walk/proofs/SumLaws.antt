@@ -5,33 +5,32 @@ use mathlib.Core.Path.{_≡_, refl, sym, ap, _∙_, subst}
 use mathlib.Core.Bool.{Bool, true, false}
 use mathlib.Core.List.{List}
 use mathlib.Core.Option.{some}
-use native.Mathlib.Nat.{mul-le-mul-right}
 use native.Mathlib.Omega.{arith}
 use lib.Dec.{eqb}
-use Rattle.camac.specs.Checks.{if_then_else_}
-use Rattle.camac.specs.Scan.{positions}
+use Rattle.base.specs.Checks.{if_then_else_}
 use Rattle.camac.specs.Words.{modeIn, qmodeIn, addressIn, wideIn, blockWords, transferIn, commandIn, qmodeOf, wordsOf, directionOf, positionOf}
-use Rattle.camac.specs.declared.QMode.{QMode}
-use Rattle.camac.specs.declared.QMode.the-variants.{Stop, Ignore, Repeat, Scan}
-use Rattle.camac.specs.declared.Address.{Address}
-use Rattle.camac.specs.declared.Command.{Command}
-use Rattle.camac.specs.declared.Direction.{Direction}
-use Rattle.camac.specs.declared.Direction.the-variants.{Incoming, Outgoing, Neither}
-use Rattle.camac.specs.declared.ScanPosition.{ScanPosition}
+use Rattle.camac.specs.declared.modes.QMode.{QMode}
+use Rattle.camac.specs.declared.words.Address.{Address}
+use Rattle.camac.specs.declared.words.Command.{Command}
+use Rattle.camac.specs.declared.words.Direction.{Direction}
+use Rattle.camac.specs.declared.words.Direction.the-variants.{Incoming, Outgoing, Neither}
 use Rattle.packing.specs.Packing.{padAt, widthOf, markAfterWords}
 use Rattle.packing.specs.declared.Marks.{Marks}
 use Rattle.packing.proofs.MarkFacts.{words-closed}
 use Rattle.listfile.specs.Fields.{tagAt, firstAt, secondAt}
-use Rattle.listfile.specs.Table.{instructionBy, instructionAt}
-use Rattle.listfile.specs.declared.Instruction.{Instruction}
-use Rattle.listfile.specs.declared.Instruction.the-variants.{Camac, Jump, Literal, Halt}
-use Rattle.listfile.specs.declared.Tag.{Tag}
-use Rattle.listfile.specs.declared.Tag.the-variants.{CamacTag, JumpTag, LiteralTag, HaltTag, UnknownTag}
+use Rattle.listfile.specs.model.Table.{instructionBy, instructionAt}
+use Rattle.listfile.specs.declared.field.Instruction.{Instruction}
+use Rattle.listfile.specs.declared.field.Instruction.the-variants.{Camac, Jump, Literal, Halt}
+use Rattle.listfile.specs.declared.field.Tag.{Tag}
+use Rattle.listfile.specs.declared.field.Tag.the-variants.{CamacTag, JumpTag, LiteralTag, HaltTag, UnknownTag}
 use Rattle.walk.specs.Walk.{nextOf, movedBy, moved, movedWords, marksAfter}
-use Rattle.walk.specs.Worst.{worstWords, worstOf}
-use Rattle.walk.specs.Sums.{FewWords, addedBy, afterCommand, turnOf}
-use Rattle.walk.specs.declared.Counts.{Counts}
-use Rattle.walk.specs.declared.Turn.the-variants.{To, Stopped}
+use Rattle.camac.specs.Modes.{worstWords}
+use Rattle.camac.proofs.Most.{worst-small}
+use Rattle.walk.specs.Worst.{worstOf}
+use Rattle.walk.specs.model.Sums.{FewWords, addedBy, afterCommand, turnOf}
+use Rattle.walk.specs.declared.worst.Counts.{Counts}
+use Rattle.walk.specs.declared.visits.Turn.the-variants.{To, Stopped}
+use Rattle.walk.specs.declared.visits.Spot.{Spot}
 
 -- the marks of sums, and sums of a worst count and marks
 abbrev pub marksIn : Counts → Marks
@@ -81,7 +80,7 @@ command-sums limit c s =
 
 -- One visit ------------------------------------------------------------------------------------------------------------------
 
-pub record Went (limit : ℕ) (i : Instruction) (k : ℕ) (s : Counts) (j : ℕ) (s′ : Counts) : Type 0 where
+pub record Went (limit : ℕ) (i : Instruction) (k : Spot) (s : Counts) (j : Spot) (s′ : Counts) : Type 0 where
   pub next : nextOf i k ≡ some j
   pub sums : s′ ≡ countsBy (s .worst + worstOf limit i) (marksAfter i (marksIn s))
 
@@ -98,7 +97,7 @@ literal-sums : (limit v : ℕ) (s : Counts)
 unfolding worstOf marksAfter markAfterWords
 literal-sums limit v s = ap (λ (w : ℕ). countsBy w (movedBy Incoming true (marksIn s))) (omega arith)
 
-pub turn-went : (limit : ℕ) (i : Instruction) (k : ℕ) (s : Counts) (j : ℕ) (s′ : Counts) → turnOf limit i k s ≡ To j s′
+pub turn-went : (limit : ℕ) (i : Instruction) (k : Spot) (s : Counts) (j : Spot) (s′ : Counts) → turnOf limit i k s ≡ To j s′
     → Went limit i k s j s′
 unfolding turnOf
 turn-went limit (Camac c) k s j s′ e =
@@ -109,7 +108,7 @@ turn-went limit (Literal v) k s j s′ e =
     record { next = ap some (cc); sums = (let q : s′ ≡ afterLiteral s = cc in q) ∙ literal-sums limit v s }
 turn-went limit Halt k s j s′ e = let z : _≡_ {A = ℕ} 0 1 = cc in absurd (omega arith)
 
-pub turn-halts : (limit : ℕ) (i : Instruction) (k : ℕ) (s : Counts) → turnOf limit i k s ≡ Stopped → i ≡ Halt
+pub turn-halts : (limit : ℕ) (i : Instruction) (k : Spot) (s : Counts) → turnOf limit i k s ≡ Stopped → i ≡ Halt
 unfolding turnOf
 turn-halts limit (Camac c) k s e = let z : _≡_ {A = ℕ} 0 1 = cc in absurd (omega arith)
 turn-halts limit (Jump target) k s e = let z : _≡_ {A = ℕ} 0 1 = cc in absurd (omega arith)
@@ -117,17 +116,6 @@ turn-halts limit (Literal v) k s e = let z : _≡_ {A = ℕ} 0 1 = cc in absurd 
 turn-halts limit Halt k s e = refl
 
 -- How little the sums grow -----------------------------------------------------------------------------------------------------
-
-pub product-small : (n limit : ℕ) → limit < 65536 → n ≤ 4294967296 → n * limit ≤ 281474976710656
-product-small n limit h k = omega (arith, mul-le-mul-right limit k)
-
-pub worst-small : (limit : ℕ) (q : QMode) (p : ScanPosition) (n : ℕ) → limit < 65536 → n ≤ 4294967296
-    → worstWords limit q p n ≤ 281474976710656
-unfolding worstWords positions
-worst-small limit Stop p n h k = omega arith
-worst-small limit Ignore p n h k = omega arith
-worst-small limit Repeat p n h k = product-small n limit h k
-worst-small limit Scan p n h k = omega arith
 
 pad-small : (wide : Bool) (m : ℕ) → padAt wide m ≤ 2
 unfolding padAt
@@ -172,7 +160,7 @@ command-grows limit c s hl h = by (directionOf (c .transfer))
         { worst = omega (arith, small); incoming = omega arith; outgoing = mark-small (c .wide) (wordsOf (c .transfer)) (s .outgoing) h }
     by Neither = record { worst = omega (arith, small); incoming = omega arith; outgoing = omega arith }
 
-pub turn-grows : (limit : ℕ) (i : Instruction) (k : ℕ) (s : Counts) (j : ℕ) (s′ : Counts) → limit < 65536 → FewWords i
+pub turn-grows : (limit : ℕ) (i : Instruction) (k : Spot) (s : Counts) (j : Spot) (s′ : Counts) → limit < 65536 → FewWords i
     → turnOf limit i k s ≡ To j s′ → Grown s s′
 unfolding turnOf
 turn-grows limit i k s j s′ hl h e = go i h e

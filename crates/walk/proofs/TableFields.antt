@@ -7,8 +7,8 @@ use mathlib.Core.Option.{none, some}
 use native.Mathlib.Omega.{arith}
 use lib.ListN.{length, getD}
 use Rattle.listfile.specs.Fields.{Field}
-use Rattle.listfile.specs.Table.{instructionAt, firstFields, TableRight}
-use Rattle.listfile.specs.declared.Instruction.{Instruction}
+use Rattle.listfile.specs.model.Table.{instructionAt, firstFields, TableRight}
+use Rattle.listfile.specs.declared.field.Instruction.{Instruction}
 use Rattle.listfile.proofs.PassLaws.{here, count-fields, entry-field}
 use Rattle.walk.specs.Walk.{fieldAt}
 

@@ -6,20 +6,21 @@ use mathlib.Core.List.{List}
 use mathlib.Core.Option.{Option, none, some}
 use native.Mathlib.Omega.{arith}
 use Rattle.listfile.specs.Fields.{Field}
-use Rattle.listfile.specs.Table.{firstFields}
-use Rattle.listfile.specs.declared.Instruction.{Instruction}
-use Rattle.listfile.specs.declared.Instruction.the-variants.{Halt}
-use Rattle.listfile.specs.declared.Sizes.{Sizes}
-use Rattle.walk.specs.Walk.{Visit, visit, fieldAt, nextOf, before, walkFrom, marksAfter, marksOver}
+use Rattle.listfile.specs.model.Table.{firstFields}
+use Rattle.listfile.specs.declared.field.Instruction.{Instruction}
+use Rattle.listfile.specs.declared.field.Instruction.the-variants.{Halt}
+use Rattle.listfile.specs.declared.check.Sizes.{Sizes}
+use Rattle.walk.specs.Walk.{firstSpot, Visit, visit, fieldAt, nextOf, before, walkFrom, marksAfter, marksOver}
 use Rattle.walk.specs.Worst.{worstOf, worstOver}
 use Rattle.walk.specs.Admission.{countsOf}
-use Rattle.walk.specs.Sums.{Below, turnOf, restFrom, WalkBy}
-use Rattle.walk.specs.declared.Counts.{Counts}
-use Rattle.walk.specs.declared.Turn.the-variants.{To, Stopped}
-use Rattle.walk.specs.declared.Walked.{Walked}
-use Rattle.walk.specs.declared.Walked.the-variants.{Lost, Halted}
+use Rattle.walk.specs.model.Sums.{Below, turnOf, restFrom, WalkBy}
+use Rattle.walk.specs.declared.worst.Counts.{Counts}
+use Rattle.walk.specs.declared.visits.Turn.the-variants.{To, Stopped}
+use Rattle.walk.specs.declared.visits.Walked.{Walked}
+use Rattle.walk.specs.declared.visits.Walked.the-variants.{Lost, Halted}
 use Rattle.walk.proofs.SumLaws.{marksIn, countsBy, turn-went, turn-halts}
-use Rattle.walk.proofs.Visits.{walk-past, walk-ends, walk-goes}
+use Rattle.walk.proofs.Halting.{walk-past, walk-ends, walk-goes}
+use Rattle.walk.specs.declared.visits.Spot.{Spot}
 
 abbrev pub noCounts : Counts
 noCounts = record { worst = 0; incoming = 0; outgoing = 0 }
@@ -30,20 +31,20 @@ ahead limit none s = Lost
 ahead limit (some vs) s = Halted (countsBy (s .worst + worstOver limit vs) (marksOver vs (marksIn s)))
 
 module _ (limit : ℕ) (fs : List Field) where
-  pub ahead-start : (n : ℕ) → ahead limit (walkFrom n fs 0) noCounts ≡ ahead limit (walkFrom (n - 0) fs 0) noCounts
+  pub ahead-start : (n : ℕ) → ahead limit (walkFrom n fs firstSpot) noCounts ≡ ahead limit (walkFrom (n - 0) fs firstSpot) noCounts
   ahead-start n = let z : n - 0 ≡ n = omega arith in rw z refl
 
-  pub ahead-none : (most k : ℕ) (s : Counts) → most ≡ 0 → ahead limit (walkFrom most fs k) s ≡ Lost
+  pub ahead-none : (most : ℕ) (k : Spot) (s : Counts) → most ≡ 0 → ahead limit (walkFrom most fs k) s ≡ Lost
   unfolding walkFrom
   ahead-none zero k s h = refl
   ahead-none (suc most) k s h = absurd (omega arith)
 
-  pub ahead-past : (most k : ℕ) (s : Counts) → 0 < most → fieldAt fs k ≡ none
+  pub ahead-past : (most : ℕ) (k : Spot) (s : Counts) → 0 < most → fieldAt fs (k .instruction) ≡ none
       → ahead limit (walkFrom most fs k) s ≡ Lost
   ahead-past zero k s u h = absurd (omega arith)
   ahead-past (suc most) k s u h = rw (walk-past most fs k h)
 
-  module _ (k : ℕ) (s : Counts) (f : Field) (h : fieldAt fs k ≡ some f) where
+  module _ (k : Spot) (s : Counts) (f : Field) (h : fieldAt fs (k .instruction) ≡ some f) where
     pub ahead-halt : (most : ℕ) → 0 < most → turnOf limit (f .instruction) k s ≡ Stopped
         → ahead limit (walkFrom most fs k) s ≡ Halted s
     unfolding worstOver worstOf marksOver marksAfter
@@ -53,7 +54,7 @@ module _ (limit : ℕ) (fs : List Field) where
         rw (walk-ends most fs k h (ap (λ (i : Instruction). nextOf i k) q), q)
         (ap (λ (w : ℕ). Halted (countsBy w (marksIn s))) (omega arith))
 
-    ahead-on : (most j : ℕ) (s′ : Counts) → turnOf limit (f .instruction) k s ≡ To j s′
+    ahead-on : (most : ℕ) (j : Spot) (s′ : Counts) → turnOf limit (f .instruction) k s ≡ To j s′
         → ahead limit (walkFrom (suc most) fs k) s ≡ ahead limit (walkFrom most fs j) s′
     unfolding worstOver marksOver
     ahead-on most j s′ e =
@@ -67,7 +68,7 @@ module _ (limit : ℕ) (fs : List Field) where
             rw q
             (ap (λ (w : ℕ). Halted (countsBy w (marksOver vs (marksAfter (f .instruction) (marksIn s))))) (omega arith))
 
-    pub ahead-turn : (n visits j : ℕ) (s′ : Counts) → visits < n → turnOf limit (f .instruction) k s ≡ To j s′
+    pub ahead-turn : (n visits : ℕ) (j : Spot) (s′ : Counts) → visits < n → turnOf limit (f .instruction) k s ≡ To j s′
         → ahead limit (walkFrom (n - visits) fs k) s ≡ ahead limit (walkFrom (n - (visits + 1)) fs j) s′
     ahead-turn n visits j s′ u e =
         let z : n - visits ≡ suc (n - (visits + 1)) = omega arith in rw z (ahead-on (n - (visits + 1)) j s′ e)
@@ -75,21 +76,21 @@ module _ (limit : ℕ) (fs : List Field) where
 -- Answers ----------------------------------------------------------------------------------------------------------------------
 
 pub walk-lost : (list : List ℕ) (s : Sizes)
-    → ahead (s .limit) (walkFrom (s .count) (firstFields list (s .count)) 0) noCounts ≡ Lost → WalkBy list s Lost
-walk-lost list s e = go (walkFrom (s .count) (firstFields list (s .count)) 0) refl e
+    → ahead (s .limit) (walkFrom (s .count) (firstFields list (s .count)) firstSpot) noCounts ≡ Lost → WalkBy list s Lost
+walk-lost list s e = go (walkFrom (s .count) (firstFields list (s .count)) firstSpot) refl e
   where
-    go : (x : Option (List Visit)) → walkFrom (s .count) (firstFields list (s .count)) 0 ≡ x
-        → ahead (s .limit) x noCounts ≡ Lost → walkFrom (s .count) (firstFields list (s .count)) 0 ≡ none
+    go : (x : Option (List Visit)) → walkFrom (s .count) (firstFields list (s .count)) firstSpot ≡ x
+        → ahead (s .limit) x noCounts ≡ Lost → walkFrom (s .count) (firstFields list (s .count)) firstSpot ≡ none
     go none q e = q
     go (some vs) q e = let z : _≡_ {A = ℕ} 0 1 = cc in absurd (omega arith)
 
 pub walk-halted : (list : List ℕ) (s : Sizes) (sums : Counts)
-    → ahead (s .limit) (walkFrom (s .count) (firstFields list (s .count)) 0) noCounts ≡ Halted sums
+    → ahead (s .limit) (walkFrom (s .count) (firstFields list (s .count)) firstSpot) noCounts ≡ Halted sums
     → Below 1152921504606846976 sums → WalkBy list s (Halted sums)
 unfolding restFrom countsOf
-walk-halted list s sums e b = go (walkFrom (s .count) (firstFields list (s .count)) 0) refl e
+walk-halted list s sums e b = go (walkFrom (s .count) (firstFields list (s .count)) firstSpot) refl e
   where
-    go : (x : Option (List Visit)) → walkFrom (s .count) (firstFields list (s .count)) 0 ≡ x
+    go : (x : Option (List Visit)) → walkFrom (s .count) (firstFields list (s .count)) firstSpot ≡ x
         → ahead (s .limit) x noCounts ≡ Halted sums → WalkBy list s (Halted sums)
     go none q e = let z : _≡_ {A = ℕ} 0 1 = cc in absurd (omega arith)
     go (some vs) q e =

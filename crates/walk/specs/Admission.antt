@@ -3,12 +3,12 @@ use Prim.Native.Nat.{ℕ}
 use mathlib.Core.List.{List, [], _∷_}
 use mathlib.Core.Option.{Option, none, some}
 use lib.Dec.{ltb}
-use Rattle.camac.specs.Checks.{if_then_else_}
+use Rattle.base.specs.Checks.{if_then_else_}
 use Rattle.listfile.specs.Fields.{Listed, refused, program, programOf}
-use Rattle.listfile.specs.declared.Refusal.{Refusal}
+use Rattle.base.specs.declared.Refusal.{Refusal}
 use Rattle.walk.specs.Walk.{Visit, walkOf, noMarks, marksOver}
 use Rattle.walk.specs.Worst.{worstOver}
-use Rattle.walk.specs.declared.Counts.{Counts}
+use Rattle.walk.specs.declared.worst.Counts.{Counts}
 use Rattle.walk.specs.declared.Admission.{Admission}
 use Rattle.walk.specs.declared.Admission.the-variants.{Refused, Admitted}
 

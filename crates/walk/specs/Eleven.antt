@@ -5,24 +5,26 @@ use mathlib.Core.Logic.{_⊎_, _↔_}
 use mathlib.Core.List.{List}
 use mathlib.Core.Option.{none, some}
 use Rattle.listfile.specs.Fields.{Field}
-use Rattle.walk.specs.Walk.{fieldAt, nextOf, walkOf}
+use Rattle.walk.specs.Walk.{firstSpot, fieldAt, nextOf, walkOf}
+use Rattle.walk.specs.declared.visits.Spot.{Spot}
 
--- from instruction k the walk comes to instruction j, n visits on
-pub data Leads (fs : List Field) : ℕ → ℕ → ℕ → Type 0 where
-  here : {k : ℕ} → Leads fs k k 0
-  onward : {k i j n : ℕ} {f : Field} → fieldAt fs k ≡ some f → nextOf (f .instruction) k ≡ some i → Leads fs i j n → Leads fs k j (suc n)
+-- from a spot the walk comes to another, n visits on
+pub data Leads (fs : List Field) : Spot → Spot → ℕ → Type 0 where
+  here : {s : Spot} → Leads fs s s 0
+  onward : {s i t : Spot} {n : ℕ} {f : Field} → fieldAt fs (s .instruction) ≡ some f → nextOf (f .instruction) s ≡ some i → Leads fs i t n
+      → Leads fs s t (suc n)
 
 pub record PassesLastField (fs : List Field) : Type 0 where
-  pub end : ℕ
+  pub end : Spot
   pub visits : ℕ
-  pub leads : Leads fs 0 end visits
-  pub past : fieldAt fs end ≡ none
+  pub leads : Leads fs firstSpot end visits
+  pub past : fieldAt fs (end .instruction) ≡ none
 
 pub record Repeats (fs : List Field) : Type 0 where
-  pub at : ℕ
+  pub at : Spot
   pub visits : ℕ
   pub around : ℕ
-  pub leads : Leads fs 0 at visits
+  pub leads : Leads fs firstSpot at visits
   pub again : Leads fs at at (suc around)
 
 abbrev pub RefusalEleven : Type 0

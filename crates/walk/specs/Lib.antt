@@ -2,4 +2,4 @@ pub mod Walk
 pub mod Eleven
 pub mod Worst
 pub mod Admission
-pub mod Sums
+pub mod model

@@ -5,27 +5,44 @@ use mathlib.Core.List.{List, [], _∷_}
 use mathlib.Core.Option.{Option, none, some}
 use lib.Dec.{eqb}
 use lib.ListN.{length}
-use Rattle.camac.specs.Checks.{if_then_else_}
+use Rattle.base.specs.Checks.{if_then_else_}
 use Rattle.camac.specs.Words.{wordsOf, directionOf}
-use Rattle.camac.specs.declared.Command.{Command}
-use Rattle.camac.specs.declared.Direction.{Direction}
-use Rattle.camac.specs.declared.Direction.the-variants.{Incoming, Outgoing, Neither}
+use Rattle.camac.specs.declared.words.Command.{Command}
+use Rattle.camac.specs.declared.words.Direction.{Direction}
+use Rattle.camac.specs.declared.words.Direction.the-variants.{Incoming, Outgoing, Neither}
 use Rattle.packing.specs.Packing.{markAfter}
 use Rattle.packing.specs.declared.Marks.{Marks}
 use Rattle.listfile.specs.Fields.{Field}
-use Rattle.listfile.specs.declared.Instruction.{Instruction}
-use Rattle.listfile.specs.declared.Instruction.the-variants.{Camac, Jump, Literal, Halt}
+use Rattle.listfile.specs.declared.field.Instruction.{Instruction}
+use Rattle.listfile.specs.declared.field.Instruction.the-variants.{Camac, Jump, Literal, Halt}
+use Rattle.walk.specs.declared.visits.Spot.{Spot}
 
 -- Visits -----------------------------------------------------------------------------------------------------------------
 
--- one instruction visited: its number, the place of its field, and itself
+-- "The walk starts at instruction 0"; a spot is where a walk stands, which the instruction's number tells
+abbrev pub firstSpot : Spot
+firstSpot = record { instruction = 0 }
+
+-- the next instruction in the list
+abbrev pub spotAfter : Spot → Spot
+spotAfter s = record { instruction = s .instruction + 1 }
+
+-- "follows jumps"
+abbrev pub jumpTo : ℕ → Spot → Spot
+jumpTo target s = record { instruction = target }
+
+-- the test by which a visit is found
+abbrev pub sameSpot : Spot → Spot → Bool
+sameSpot s t = eqb (s .instruction) (t .instruction)
+
+-- one instruction visited: its spot, the place of its field, and itself
 pub record Visit : Type 0 where
-  pub number : ℕ
+  pub spot : Spot
   pub place : ℕ
   pub instruction : Instruction
 
-abbrev pub visit : ℕ → Field → Visit
-visit k f = record { number = k; place = f .place; instruction = f .instruction }
+abbrev pub visit : Spot → Field → Visit
+visit s f = record { spot = s; place = f .place; instruction = f .instruction }
 
 -- the field of instruction k; none past the last field
 abbrev pub fieldAt : List Field → ℕ → Option Field
@@ -33,38 +50,38 @@ fieldAt [] k = none
 fieldAt (f ∷ fs) zero = some f
 fieldAt (f ∷ fs) (suc k) = fieldAt fs k
 
--- the instruction that follows instruction k on the walk; none after halt
-abbrev pub nextOf : Instruction → ℕ → Option ℕ
-nextOf (Camac c) k = some (k + 1)
-nextOf (Jump target) k = some target
-nextOf (Literal v) k = some (k + 1)
-nextOf Halt k = none
+-- the spot that follows on the walk; none after halt
+abbrev pub nextOf : Instruction → Spot → Option Spot
+nextOf (Camac c) s = some (spotAfter s)
+nextOf (Jump target) s = some (jumpTo target s)
+nextOf (Literal v) s = some (spotAfter s)
+nextOf Halt s = none
 
 -- a visit, and after it those of the rest of the walk
 abbrev pub before : Visit → Option (List Visit) → Option (List Visit)
 before v none = none
 before v (some vs) = some (v ∷ vs)
 
--- the visits from instruction k to a halt, at most `most` of them; none where the walk passes the last field or needs more
-unfoldable pub walkFrom : ℕ → List Field → ℕ → Option (List Visit)
-walkFrom zero fs k = none
-walkFrom (suc most) fs k = elim (fieldAt fs k) [
+-- the visits from a spot to a halt, at most `most` of them; none where the walk passes the last field or needs more
+unfoldable pub walkFrom : ℕ → List Field → Spot → Option (List Visit)
+walkFrom zero fs s = none
+walkFrom (suc most) fs s = elim (fieldAt fs (s .instruction)) [
   | none ↦ none
-  | some f ↦ elim (nextOf (f .instruction) k) [ none ↦ some (visit k f ∷ []) | some j ↦ before (visit k f) (walkFrom most fs j) ]
+  | some f ↦ elim (nextOf (f .instruction) s) [ none ↦ some (visit s f ∷ []) | some t ↦ before (visit s f) (walkFrom most fs t) ]
 ]
 
 -- A walk of more visits than there are instructions repeats one of them: Eleven says that this is refusal 11.
 unfoldable pub walkOf : List Field → Option (List Visit)
-walkOf fs = walkFrom (length fs) fs 0
+walkOf fs = walkFrom (length fs) fs firstSpot
 
--- the visits before that of instruction k, and those from it on
-unfoldable pub upTo : ℕ → List Visit → List Visit
-upTo k [] = []
-upTo k (v ∷ vs) = if eqb (v .number) k then [] else v ∷ upTo k vs
+-- the visits before that of a spot, and those from it on
+unfoldable pub upTo : Spot → List Visit → List Visit
+upTo s [] = []
+upTo s (v ∷ vs) = if sameSpot (v .spot) s then [] else v ∷ upTo s vs
 
-unfoldable pub onFrom : ℕ → List Visit → List Visit
-onFrom k [] = []
-onFrom k (v ∷ vs) = if eqb (v .number) k then v ∷ vs else onFrom k vs
+unfoldable pub onFrom : Spot → List Visit → List Visit
+onFrom s [] = []
+onFrom s (v ∷ vs) = if sameSpot (v .spot) s then v ∷ vs else onFrom s vs
 
 -- Marks ------------------------------------------------------------------------------------------------------------------
 

@@ -14,7 +14,7 @@ use crate::types;
 use crate::verdict::{self, Report, Verdict};
 
 /// The crate of the theorem, the file of its proofs that has it, and its name.
-pub const CRATE: &str = "bound";
+pub const CRATE: &str = "worst_count";
 pub const MODULE: &str = "Bound";
 pub const THEOREM: &str = "worst-count";
 
@@ -192,19 +192,19 @@ mod tests {
     #[test]
     fn cited_law_files() {
         assert_eq!(
-            cited("use Rattle.walk.proofs.Visits.{Walk, walked}"),
-            law("walk", "Visits")
+            cited("use Rattle.walk.proofs.Halting.{Walk, walked}"),
+            law("walk", "Halting")
         );
         assert_eq!(
-            cited("use Rattle.bound.proofs.Live.{Live}"),
-            law("bound", "Live")
+            cited("use Rattle.worst_count.proofs.Live.{Live}"),
+            law("worst_count", "Live")
         );
         assert_eq!(
-            cited("use Rattle.run.proofs.Fits as fits"),
-            law("run", "Fits")
+            cited("use Rattle.reply.proofs.Fits as fits"),
+            law("reply", "Fits")
         );
-        assert_eq!(cited("use Rattle.run.specs.Fit.{fits}"), None);
-        assert_eq!(cited("use Rattle.bound.specs.Slowest.{misses}"), None);
+        assert_eq!(cited("use Rattle.calls.specs.Fit.{fits}"), None);
+        assert_eq!(cited("use Rattle.worst_count.specs.Slowest.{misses}"), None);
         assert_eq!(cited("use mathlib.Core.List.{List}"), None);
     }
 
@@ -227,9 +227,9 @@ mod tests {
             detail: String::new(),
             automatic: false,
         };
-        let own = report("crates/bound/proofs/A.antt", "a", "`omega`: no");
+        let own = report("crates/worst_count/proofs/A.antt", "a", "`omega`: no");
         let theorem = report(
-            "crates/bound/proofs/Bound.antt",
+            "crates/worst_count/proofs/Bound.antt",
             THEOREM,
             "`a` was not admitted",
         );

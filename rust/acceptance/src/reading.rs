@@ -81,7 +81,7 @@ fn meant(root: &Path, path: &str) -> Vec<PathBuf> {
 fn code_declares(line: &str, name: &str) -> bool {
     let mut words = line
         .split(|c: char| !c.is_alphanumeric() && c != '_')
-        .filter(|word| !word.is_empty() && *word != "pub" && *word != "extern" && *word != "C");
+        .filter(|word| !word.is_empty() && !["pub", "crate", "extern", "C"].contains(word));
     let keywords = ["fn", "struct", "enum", "type", "const", "mod"];
     words.next().is_some_and(|word| keywords.contains(&word)) && words.next() == Some(name)
 }
@@ -248,7 +248,7 @@ mod tests {
     #[test]
     fn names_of_this_repository() {
         let root = crate::repository::root();
-        let right = "`camac/specs/Words:wordsOf` `camac/src/lib:decode` `.ci/run` `camac/src/lib:ScanPosition::after_done`";
+        let right = "`camac/specs/Words:wordsOf` `camac/src/words:decode` `.ci/run` `camac/src/scan:ScanPosition::after_done`";
         assert_eq!(name_faults(&root, right), Vec::<String>::new());
         let wrong =
             "`camac/specs/Words:noSuchName`\n`camac/specs/NoSuchFile:x`\n`docs/no-such-file.md`";

@@ -73,8 +73,19 @@ fn needed_use(line: &str, types: &str) -> Option<String> {
     }
 }
 
-/// The types of a source file with their comments, the `use` lines that they need and the
-/// `mod` lines; no other item.
+/// A type's name, by its looks: a capital and then small letters.
+fn is_type_name(name: &str) -> bool {
+    name.starts_with(char::is_uppercase) && name.contains(char::is_lowercase)
+}
+
+/// Whether a line hands a type of a module on.
+fn hands_on(line: &str) -> bool {
+    let name = words(line).last().unwrap_or_default();
+    line.starts_with("pub use ") && is_type_name(name)
+}
+
+/// The types of a source file with their comments, the `use` lines that they need or that
+/// hand on a type of a module, and the `mod` lines; no other item.
 pub fn of(text: &str) -> String {
     let all = items(text);
     let types: Vec<String> = all
@@ -88,6 +99,7 @@ pub fn of(text: &str) -> String {
     for item in &all {
         match keyword(item) {
             "mod" => heads.push(item.lines.join("\n")),
+            "use" if hands_on(item.lines[0]) => heads.push(item.lines.join("\n")),
             "use" => heads.extend(needed_use(&item.lines.join(" "), &types)),
             _ => {}
         }
@@ -105,6 +117,8 @@ ghost use a.B.{c};
 use camac::Command;
 use camac::{Decoded, less};
 mod parts;
+pub use parts::Part;
+pub use parts::part_of;
 ";
 
     const TYPES: &str = "\
@@ -148,6 +162,7 @@ pub fn refused(
 use camac::Command;
 use camac::Decoded;
 mod parts;
+pub use parts::Part;
 ";
 
     #[test]

@@ -2,11 +2,12 @@
 
 use acceptance::{files, reading, repository};
 
-const DOCUMENTS: [&str; 5] = [
+const DOCUMENTS: [&str; 6] = [
     "docs/READING.md",
     "docs/WHY.md",
     "docs/ACCEPTANCE.md",
     "docs/DECISIONS.md",
+    "docs/CHANGES.md",
     "README.md",
 ];
 

@@ -1,6 +1,6 @@
 //! Prints cases of the separate build as equations over the engine's definitions, for the checker to compute (`refl`):
 //! `cargo run --release --example equations SEED CASES`. The module wants a constant `opened` that unfolds the definitions,
-//! as `bound/proofs/Cases` has one. Not part of the gate: a case costs some milliseconds, and lists here are kept small.
+//! as `worst_count/proofs/Cases` has one. Not part of the gate: a case costs some milliseconds, and lists here are kept small.
 use reference::cases::{case, records::step_case};
 use reference::record::Record;
 use reference::run::{run_row, start, Answer};

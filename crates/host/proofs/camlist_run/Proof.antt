@@ -1,4 +1,4 @@
--- `host::camlist_run` meets its contract: its numbers are those of what the whole run yields, and the incoming bytes are the whole run's.
+-- `host::camlist_run` meets its contract: its numbers are those of what the whole run yields, and both buffers are the whole run's.
 use mathlib.Core.Path.{ap, _∙_}
 use Rattle.host.specs.Numbers.{runNumbers}
 use borrow.Author.Needs.{needs}
@@ -15,7 +15,9 @@ same-length : tie.Need-same-length
 same-length c = search needs
 
 returns : tie.Need-returns
-returns c = (c .run-numbers .ensures ∙ ap runNumbers (c .before .before .before .run-row .ensures .0), c .before .before .before .run-row .ensures .1)
+returns c =
+    let ran = c .before .before .before .run-row .ensures in
+    (c .run-numbers .ensures ∙ ap runNumbers (ran .answer), (ran .incoming-bytes, ran .outgoing-bytes))
 
 pub camlist-run-spec : {M : Type 1} → statement M
 camlist-run-spec = tie.close (tie.spec run-row-requires run-numbers-requires same-length returns)

@@ -11,8 +11,8 @@ aligned-mark-requires c κs = search needs
 byte-at-requires : tie.Need-byte-at-requires
 byte-at-requires c κs = search needs
 
-extended-requires : tie.Need-extended-requires
-extended-requires c κs = search needs
+u32-of-requires : tie.Need-u32-of-requires
+u32-of-requires c κs = search needs
 
 add-byte-at : tie.Need-add-byte-at
 add-byte-at c = search needs
@@ -20,8 +20,8 @@ add-byte-at c = search needs
 byte-at-requires-2 : tie.Need-byte-at-requires-2
 byte-at-requires-2 c κs = search needs
 
-extended-requires-2 : tie.Need-extended-requires-2
-extended-requires-2 c κs = search needs
+u32-of-requires-2 : tie.Need-u32-of-requires-2
+u32-of-requires-2 c κs = search needs
 
 mul-low : tie.Need-mul-low
 mul-low c = search needs
@@ -35,8 +35,8 @@ add-byte-at-2 c = search needs
 byte-at-requires-3 : tie.Need-byte-at-requires-3
 byte-at-requires-3 c κs = search needs
 
-extended-requires-3 : tie.Need-extended-requires-3
-extended-requires-3 c κs = search needs
+u32-of-requires-3 : tie.Need-u32-of-requires-3
+u32-of-requires-3 c κs = search needs
 
 mul-result : tie.Need-mul-result
 mul-result c = search needs
@@ -48,12 +48,12 @@ returns : tie.Need-returns
 unfolding wordAt
 returns c = (
   simp (
-    c .extended3 .ensures .0,
+    c .u32-of3 .ensures .0,
     c .before .byte-at3 .ensures,
     c .before .before .if1 .taken,
-    c .before .before .before .extended2 .ensures .0,
+    c .before .before .before .u32-of2 .ensures .0,
     c .before .before .before .before .byte-at2 .ensures,
-    c .before .before .before .before .before .extended .ensures .0,
+    c .before .before .before .before .before .u32-of .ensures .0,
     c .before .before .before .before .before .before .byte-at .ensures,
     c .before .before .before .before .before .before .before .aligned-mark .ensures .0,
   ),
@@ -65,9 +65,9 @@ unfolding wordAt
 returns-2 c = (
   simp (
     c .if1 .left,
-    c .before .extended2 .ensures .0,
+    c .before .u32-of2 .ensures .0,
     c .before .before .byte-at2 .ensures,
-    c .before .before .before .extended .ensures .0,
+    c .before .before .before .u32-of .ensures .0,
     c .before .before .before .before .byte-at .ensures,
     c .before .before .before .before .before .aligned-mark .ensures .0,
   )
@@ -81,15 +81,15 @@ fetch-spec =
     (tie.spec
     aligned-mark-requires
     byte-at-requires
-    extended-requires
+    u32-of-requires
     add-byte-at
     byte-at-requires-2
-    extended-requires-2
+    u32-of-requires-2
     mul-low
     add-low
     add-byte-at-2
     byte-at-requires-3
-    extended-requires-3
+    u32-of-requires-3
     mul-result
     add-result
     returns

@@ -1,0 +1,18 @@
+-- `operation_of` is `operationOf`: address and word are what the callees for them ensure.
+use borrow.Author.Needs.{needs}
+use Rattle.calls.specs.Calls.{operationOf}
+use Rattle.calls.proofs.operations.operation_of.Statement.{statement}
+use Rattle.calls.proofs.operations.operation_of.Tie as tie
+
+address-of-requires : tie.Need-address-of-requires
+address-of-requires c κs = search needs
+
+word-wanted-requires : tie.Need-word-wanted-requires
+word-wanted-requires c κs = search needs
+
+returns : tie.Need-returns
+unfolding operationOf
+returns c = simp (c .word-wanted .ensures, c .before .before .before .address-of .ensures)
+
+pub operation-of-spec : {M : Type 1} → statement M
+operation-of-spec = tie.close (tie.spec address-of-requires word-wanted-requires returns)

@@ -1,0 +1,41 @@
+-- Fit as code tests it: bounds that an admitted list sets to the numbers that fit is judged by, and the tests in two parts. Nothing here
+-- is a rule of document 01: the law fit-parts joins the two parts to the definition that is.
+use Prim.Native.Nat.{ℕ, _+_, _^_, _≤_}
+use mathlib.Core.Bool.{Bool, _&&_, not}
+use mathlib.Core.List.{[], _∷_}
+use lib.Dec.{leb, eqb}
+use lib.Bits.{bitAnd}
+use Rattle.base.specs.Checks.{allOf}
+use Rattle.camac.specs.Words.{qmodeOf, wordsOf, positionOf}
+use Rattle.camac.specs.Modes.{triesFit, positionFits, mostLeft}
+use Rattle.camac.specs.declared.words.Command.{Command}
+use Rattle.packing.specs.declared.Marks.{Marks}
+use Rattle.reply.specs.Status.{waitingBits}
+use Rattle.reply.specs.declared.records.Record.{Record}
+use Rattle.calls.specs.Fit.{marksFit, noteFits}
+
+-- what an admitted list bounds: R, the words of an instruction, the marks before it and the sum over the walk after it
+pub record Bounded (limit : ℕ) (c : Command) (m : Marks) (rest : ℕ) : Type 0 where
+  pub limited : limit ≤ 65535
+  pub words : wordsOf (c .transfer) ≤ 65536
+  pub incoming : m .incoming ≤ 2 ^ 60
+  pub outgoing : m .outgoing ≤ 2 ^ 60
+  pub after : rest ≤ 2 ^ 60
+
+-- the tests of a record by itself, at an instruction
+unfoldable pub fitsCommand : ℕ → Command → Record → Bool
+fitsCommand limit c r = allOf (
+    not (r .ended)
+    ∷ leb 1 (r .left)
+    ∷ leb (r .left) (wordsOf (c .transfer))
+    ∷ triesFit limit (qmodeOf (c .transfer)) (r .tries)
+    ∷ positionFits (qmodeOf (c .transfer)) (positionOf (c .transfer)) (r .position)
+    ∷ eqb (bitAnd (r .status) waitingBits) (r .status)
+    ∷ noteFits (r .note) (r .marks)
+    ∷ [])
+
+-- the tests of its marks and operations, by the walk
+unfoldable pub fitsWalk : ℕ → ℕ → Command → Marks → ℕ → Record → Bool
+fitsWalk limit worst c m rest r =
+    marksFit c m r
+    && leb (r .operations + mostLeft limit (qmodeOf (c .transfer)) (r .position) (r .left) (r .tries) rest) worst

@@ -1,4 +1,0 @@
-pub mod Onward
-pub mod PlanLaws
-pub mod Place
-pub mod StepLaws

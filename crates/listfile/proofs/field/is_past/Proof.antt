@@ -1,0 +1,10 @@
+-- `is_past` is the test that its contract states.
+use mathlib.Core.Path.{refl}
+use Rattle.listfile.proofs.field.is_past.Statement.{statement}
+use Rattle.listfile.proofs.field.is_past.Tie as tie
+
+returns : tie.Need-returns
+returns c = refl
+
+pub is-past-spec : {M : Type 1} → statement M
+is-past-spec = tie.close (tie.spec returns)

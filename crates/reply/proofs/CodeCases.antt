@@ -1,0 +1,178 @@
+-- The code of an answer is the greatest of its causes; every cause has a code from 1 to 13; a scan that leaves has no smaller cause
+-- beside it, so that 9 as the greatest code is 9 as the only cause.
+use Prim.Native.Nat.{ℕ, _≤_, _<_, max}
+use mathlib.Core.Path.{_≡_, refl, sym, _∙_}
+use mathlib.Core.Bool.{Bool, true, false, and-true, and-false}
+use borrow.Author.Tests.{ne-eqb}
+use mathlib.Core.List.{List, [], _∷_}
+use native.Mathlib.Omega.{arith}
+use native.Mathlib.Nat.{zero-max, max-zero, max-le, le-max-left}
+use lib.Dec.{eqb}
+use Rattle.base.specs.Checks.{if_then_else_, Check, _gives_}
+use Rattle.base.proofs.Checks.{Numbered}
+use Rattle.camac.specs.Words.{qmodeOf}
+use Rattle.camac.specs.declared.modes.QMode.{QMode}
+use Rattle.camac.specs.declared.modes.QMode.the-variants.{Stop, Ignore, Repeat, Scan}
+use Rattle.camac.specs.declared.words.Command.{Command}
+use Rattle.camac.specs.declared.scan.ScanPosition.{ScanPosition}
+use Rattle.camac.specs.Modes.{spent, scanLeaves, noX, noQInStop}
+use Rattle.reply.specs.Causes.{doneBy, parityError, causeChecks, allThatHold, causesOf, greatest, codeOf, onlyNine}
+use Rattle.camac.specs.declared.modes.Answer.{Answer}
+use Rattle.reply.specs.declared.replies.Reply.{Reply}
+use Rattle.reply.specs.declared.replies.Reply.the-variants.{Answered, Timeout, NotRecognised, NoSync}
+use Rattle.reply.specs.declared.records.Record.{Record}
+use Rattle.reply.specs.model.Here.{movesAtEnd}
+use Rattle.base.proofs.Tests.{true-not-false}
+
+-- The greatest code ------------------------------------------------------------------------------------------------------
+
+-- the greatest of the codes, with 0 for a check that does not hold
+abbrev maxOf : List Check → ℕ
+maxOf [] = 0
+maxOf (c ∷ cs) = max (if c .holds then c .number else 0) (maxOf cs)
+
+max-greatest : (cs : List Check) → maxOf cs ≡ greatest (allThatHold cs)
+max-greatest [] = refl
+max-greatest (c ∷ cs) = go (c .holds) (max-greatest cs)
+  where
+    go :
+        (t : Bool) → maxOf cs ≡ greatest (allThatHold cs)
+        → max (if t then c .number else 0) (maxOf cs) ≡ greatest (if t then c .number ∷ allThatHold cs else allThatHold cs)
+    go true e = rw e
+    go false e = zero-max (maxOf cs) ∙ e
+
+-- every code of the row is at most k
+abbrev Below : ℕ → List Check → Type 0
+Below k [] = Unit {0}
+Below k (c ∷ cs) = (c .number ≤ k) × Below k cs
+
+greatest-below : (k : ℕ) (cs : List Check) → Below k cs → greatest (allThatHold cs) ≤ k
+greatest-below k [] h = omega arith
+greatest-below k (c ∷ cs) h = go (c .holds) (greatest-below k cs (h .1))
+  where
+    go :
+        (t : Bool) → greatest (allThatHold cs) ≤ k
+        → greatest (if t then c .number ∷ allThatHold cs else allThatHold cs) ≤ k
+    go true g = max-le (h .0) g
+    go false g = g
+
+code-small : (limit : ℕ) (c : Command) (r : Record) (reply : Reply) → codeOf limit c r reply ≤ 13
+unfolding codeOf causesOf causeChecks
+code-small limit c r NoSync = omega arith
+code-small limit c r NotRecognised = omega arith
+code-small limit c r Timeout = omega arith
+code-small limit c r (Answered a) = greatest-below 13 (causeChecks limit c r a) (omega arith)
+
+pub code-below : (limit : ℕ) (c : Command) (r : Record) (reply : Reply) (x : ℕ) → x ≡ codeOf limit c r reply → x ≤ 13
+code-below limit c r reply x e = omega (arith, code-small limit c r reply)
+
+-- The row of causes ------------------------------------------------------------------------------------------------------
+
+abbrev row : Bool → Bool → Bool → Bool → Bool → List ℕ
+row s p l x n = allThatHold (s gives 11 ∷ p gives 10 ∷ l gives 9 ∷ x gives 8 ∷ n gives 7 ∷ [])
+
+first-numbered : (cs : List Check) → Numbered cs → {code : ℕ} {codes : List ℕ} → allThatHold cs ≡ code ∷ codes → 1 ≤ code
+first-numbered [] h e = let z : _≡_ {A = ℕ} 0 1 = cc in absurd (omega arith)
+first-numbered (c ∷ cs) h {code} {codes} e = go (c .holds) e (λ f. first-numbered cs (h .1) {code = code} {codes = codes} f)
+  where
+    go :
+        (t : Bool) → (if t then c .number ∷ allThatHold cs else allThatHold cs) ≡ code ∷ codes
+        → (allThatHold cs ≡ code ∷ codes → 1 ≤ code) → 1 ≤ code
+    go true e ih = let same : c .number ≡ code = cc in omega (arith, h .0)
+    go false e ih = ih e
+
+-- every cause has a code from 1 on
+pub cause-numbered :
+    (limit : ℕ) (c : Command) (r : Record) (reply : Reply) {code : ℕ} {codes : List ℕ}
+    → causesOf limit c r reply ≡ code ∷ codes → 1 ≤ greatest (code ∷ codes)
+unfolding causesOf causeChecks
+cause-numbered limit c r reply {code} {codes} e = omega (arith, first reply e, le-max-left code (greatest codes))
+  where
+    first : (reply : Reply) → causesOf limit c r reply ≡ code ∷ codes → 1 ≤ code
+    first NoSync e = let same : 13 ≡ code = cc in omega arith
+    first NotRecognised e = let same : 12 ≡ code = cc in omega arith
+    first Timeout e = let same : 11 ≡ code = cc in omega arith
+    first (Answered a) e = first-numbered (causeChecks limit c r a) (omega arith) e
+
+-- The code of an answer --------------------------------------------------------------------------------------------------
+
+module _ (limit : ℕ) (c : Command) (r : Record) (a : Answer) (q : QMode) (eq : q ≡ qmodeOf (c .transfer)) where
+  pub code-greatest :
+      max (if spent limit q a (r .tries) then 11 else 0)
+      (max (if parityError (c .ad) a then 10 else 0)
+      (max (if scanLeaves q a (r .position) (r .left) then 9 else 0)
+      (max (if noX q (c .ad) a then 8 else 0) (if noQInStop q a then 7 else 0))))
+      ≡ codeOf limit c r (Answered a)
+  unfolding codeOf causesOf causeChecks
+  code-greatest =
+      rw (eq, ← max-zero (if noQInStop (qmodeOf (c .transfer)) a then 7 else 0)) (max-greatest (causeChecks limit c r a))
+
+  pub code-0 :
+      spent limit q a (r .tries) ≡ false → parityError (c .ad) a ≡ false → scanLeaves q a (r .position) (r .left) ≡ false
+      → noX q (c .ad) a ≡ false → noQInStop q a ≡ false → 0 ≡ codeOf limit c r (Answered a)
+  unfolding codeOf causesOf causeChecks
+  code-0 h0 h1 h2 h3 h = rw (← eq, h0, h1, h2, h3, h)
+
+-- Nine as the only cause -------------------------------------------------------------------------------------------------
+
+above-nine : (code : ℕ) (codes : List ℕ) → 9 < code → onlyNine (code ∷ codes) ≡ eqb (greatest (code ∷ codes)) 9
+above-nine code codes h =
+    several codes ∙ sym (ne-eqb (max code (greatest codes)) 9 (λ e. omega (arith, le-max-left code (greatest codes))))
+  where
+    several : (codes : List ℕ) → onlyNine (code ∷ codes) ≡ false
+    several [] = ne-eqb code 9 (λ e. omega arith)
+    several (d ∷ codes) = refl
+
+nine-alone :
+    (s p l x n : Bool) → (l ≡ true → x ≡ false) → (l ≡ true → n ≡ false)
+    → onlyNine (row s p l x n) ≡ eqb (greatest (row s p l x n)) 9
+nine-alone true p l x n hx hn = above-nine 11 (allThatHold (p gives 10 ∷ l gives 9 ∷ x gives 8 ∷ n gives 7 ∷ [])) (omega arith)
+nine-alone false true l x n hx hn = above-nine 10 (allThatHold (l gives 9 ∷ x gives 8 ∷ n gives 7 ∷ [])) (omega arith)
+nine-alone false false true true n hx hn = absurd (true-not-false (hx refl))
+nine-alone false false true false true hx hn = absurd (true-not-false (hn refl))
+nine-alone false false true false false hx hn = refl
+nine-alone false false false true true hx hn = refl
+nine-alone false false false true false hx hn = refl
+nine-alone false false false false true hx hn = refl
+nine-alone false false false false false hx hn = refl
+
+leaving-no-x : (q : QMode) (ad : Bool) (a : Answer) (p : ScanPosition) (left : ℕ) → scanLeaves q a p left ≡ true → noX q ad a ≡ false
+leaving-no-x Stop ad a p left h = absurd (true-not-false (sym h))
+leaving-no-x Ignore ad a p left h = absurd (true-not-false (sym h))
+leaving-no-x Repeat ad a p left h = absurd (true-not-false (sym h))
+leaving-no-x Scan ad a p left h = refl
+
+leaving-no-q : (q : QMode) (a : Answer) (p : ScanPosition) (left : ℕ) → scanLeaves q a p left ≡ true → noQInStop q a ≡ false
+leaving-no-q Stop a p left h = absurd (true-not-false (sym h))
+leaving-no-q Ignore a p left h = refl
+leaving-no-q Repeat a p left h = refl
+leaving-no-q Scan a p left h = refl
+
+-- "with 9 as the only cause" is 9 as the greatest code
+only-nine :
+    (limit : ℕ) (c : Command) (r : Record) (reply : Reply)
+    → onlyNine (causesOf limit c r reply) ≡ eqb (codeOf limit c r reply) 9
+unfolding codeOf causesOf causeChecks
+only-nine limit c r NoSync = refl
+only-nine limit c r NotRecognised = refl
+only-nine limit c r Timeout = refl
+only-nine limit c r (Answered a) =
+    nine-alone
+    (spent limit (qmodeOf (c .transfer)) a (r .tries))
+    (parityError (c .ad) a)
+    (scanLeaves (qmodeOf (c .transfer)) a (r .position) (r .left))
+    (noX (qmodeOf (c .transfer)) (c .ad) a)
+    (noQInStop (qmodeOf (c .transfer)) a)
+    (leaving-no-x (qmodeOf (c .transfer)) (c .ad) a (r .position) (r .left))
+    (leaving-no-q (qmodeOf (c .transfer)) a (r .position) (r .left))
+
+-- The word of a reply that ends the run ----------------------------------------------------------------------------------
+
+module _ (limit : ℕ) (c : Command) (reply : Reply) (r : Record) (code : ℕ) (e : code ≡ codeOf limit c r reply) where
+  pub moves-nine : code ≡ 9 → doneBy (qmodeOf (c .transfer)) reply ≡ movesAtEnd limit c reply r
+  unfolding movesAtEnd
+  moves-nine h = rw (only-nine limit c r reply, ← e, h) (sym (and-true (doneBy (qmodeOf (c .transfer)) reply)))
+
+  pub moves-none : ¬ (code ≡ 9) → false ≡ movesAtEnd limit c reply r
+  unfolding movesAtEnd
+  moves-none h = rw (only-nine limit c r reply, ← e, ne-eqb code 9 h) (sym (and-false (doneBy (qmodeOf (c .transfer)) reply)))

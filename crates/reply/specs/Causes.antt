@@ -1,0 +1,61 @@
+-- When a word is done, and what ends a run (document 01, "One operation, one reply").
+use Prim.Native.Nat.{ℕ, max}
+use mathlib.Core.Bool.{Bool, false, _&&_, _||_, not}
+use mathlib.Core.List.{List, [], _∷_}
+use lib.Dec.{eqb}
+use Rattle.base.specs.Checks.{if_then_else_, Check, _gives_}
+use Rattle.camac.specs.Words.{qmodeOf}
+use Rattle.camac.specs.declared.modes.QMode.{QMode}
+use Rattle.camac.specs.declared.words.Command.{Command}
+use Rattle.camac.specs.declared.modes.Answer.{Answer}
+use Rattle.reply.specs.declared.replies.Reply.{Reply}
+use Rattle.reply.specs.declared.replies.Reply.the-variants.{Answered, Timeout, NotRecognised, NoSync}
+use Rattle.reply.specs.declared.records.Record.{Record}
+use Rattle.camac.specs.Modes.{done, spent, scanLeaves, noX, noQInStop}
+
+-- "Kinds 1 to 3 bring their own cause only": no word
+abbrev pub doneBy : QMode → Reply → Bool
+doneBy q (Answered a) = done q a
+doneBy q Timeout = false
+doneBy q NotRecognised = false
+doneBy q NoSync = false
+
+-- "TPE or LPE with AD = 0"
+abbrev pub parityError : Bool → Answer → Bool
+parityError ad a = (a .tpe || a .lpe) && not ad
+
+-- the causes of an answer with their codes
+unfoldable pub causeChecks : ℕ → Command → Record → Answer → List Check
+causeChecks limit c r a =
+    spent limit (qmodeOf (c .transfer)) a (r .tries) gives 11
+    ∷ parityError (c .ad) a gives 10
+    ∷ scanLeaves (qmodeOf (c .transfer)) a (r .position) (r .left) gives 9
+    ∷ noX (qmodeOf (c .transfer)) (c .ad) a gives 8
+    ∷ noQInStop (qmodeOf (c .transfer)) a gives 7
+    ∷ []
+
+-- the numbers of all checks of a row that hold
+abbrev pub allThatHold : List Check → List ℕ
+allThatHold [] = []
+allThatHold (c ∷ cs) = if c .holds then c .number ∷ allThatHold cs else allThatHold cs
+
+-- "kind 3 Dh; kind 2 Ch; kind 1 Bh"; "Kinds 1 to 3 bring their own cause only"
+unfoldable pub causesOf : ℕ → Command → Record → Reply → List ℕ
+causesOf limit c r NoSync = 13 ∷ []
+causesOf limit c r NotRecognised = 12 ∷ []
+causesOf limit c r Timeout = 11 ∷ []
+causesOf limit c r (Answered a) = allThatHold (causeChecks limit c r a)
+
+-- "The greatest code wins"; 0 where there is no cause
+abbrev pub greatest : List ℕ → ℕ
+greatest [] = 0
+greatest (code ∷ codes) = max code (greatest codes)
+
+unfoldable pub codeOf : ℕ → Command → Record → Reply → ℕ
+codeOf limit c r reply = greatest (causesOf limit c r reply)
+
+-- "with 9 as the only cause"
+abbrev pub onlyNine : List ℕ → Bool
+onlyNine [] = false
+onlyNine (code ∷ []) = eqb code 9
+onlyNine (code ∷ d ∷ codes) = false

@@ -1,0 +1,5 @@
+pub mod Replies
+pub mod Causes
+pub mod Status
+pub mod Effect
+pub mod model

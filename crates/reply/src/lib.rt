@@ -1,0 +1,34 @@
+// One operation, one reply: replies, what ends a run, the status word, the record of a run, what a reply does at an operation.
+pub mod causes;
+pub mod records;
+pub mod replies;
+pub mod status;
+pub mod take;
+
+pub use causes::code_of;
+pub use causes::done_by;
+pub use causes::has_parity_error;
+pub use records::Note;
+pub use records::Record;
+pub use records::counted_record;
+pub use records::ended_at;
+pub use records::moved_marks;
+pub use records::moved_record;
+pub use records::note_after;
+pub use records::wait_on;
+pub use records::waits_for;
+pub use records::with_marks;
+pub use records::zero_record;
+pub use replies::Formed;
+pub use replies::Reply;
+pub use replies::is_formed_at;
+pub use replies::reply_at;
+pub use replies::reply_of;
+pub use status::WAITING_BITS;
+pub use status::flags_of;
+pub use take::Advance;
+pub use take::Taken;
+pub use take::advance_by;
+pub use take::longword_of;
+pub use take::store_by;
+pub use take::take_here;

@@ -1,0 +1,4 @@
+pub mod Onward
+pub mod PlanLaws
+pub mod Search
+pub mod StepLaws

@@ -1,0 +1,25 @@
+-- `fits_here` is `fitsBy` at what was found.
+use native.Mathlib.Omega.{arith}
+use borrow.Author.Needs.{needs}
+use Rattle.step.proofs.place.fits_here.Statement.{statement}
+use Rattle.step.proofs.place.fits_here.Tie as tie
+
+less-requires : tie.Need-less-requires
+less-requires c κs = search needs
+
+fits-at-requires : tie.Need-fits-at-requires
+fits-at-requires c κs =
+    let bounded = c .before .before .before .pre in
+    record {
+      limited = bounded .limited;
+      words = bounded .words;
+      incoming = bounded .incoming;
+      outgoing = bounded .outgoing;
+      after = omega (arith, bounded .after, c .less .ensures);
+    }
+
+returns : tie.Need-returns
+returns c = simp (c .fits-at .ensures, c .before .less .ensures)
+
+pub fits-here-spec : {M : Type 1} → statement M
+fits-here-spec = tie.close (tie.spec less-requires fits-at-requires returns)

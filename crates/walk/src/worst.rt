@@ -1,0 +1,44 @@
+// W, B and O: the sums over the walk.
+use camac::Command;
+use camac::Direction;
+ghost use mathlib.Core.Path.{_≡_};
+ghost use Prim.Native.Nat.{_<_, _≤_};
+ghost use Rattle.camac.specs.Words.{wordsOf};
+ghost use Rattle.walk.specs.model.Sums.{Below, afterCommand};
+
+// W, B and O: the worst count, and the incoming and the outgoing mark after every word of the walk.
+pub struct Counts {
+    pub worst: u64,
+    pub incoming: u64,
+    pub outgoing: u64,
+}
+
+// The sums after a CAMAC instruction with all its words.
+pub(crate) fn after_command(limit: u64, c: Command, s: Counts) -> Counts
+    requires { ⌜ (limit < 65536) × ((wordsOf (c .transfer) ≤ 4294967296) × Below 4611686018427387904 s) ⌝ }
+    ensures { λ r. ⌜ r ≡ afterCommand limit c s ⌝ }
+{
+    let t = c.transfer;
+    let wide = c.wide;
+    let words = camac::words_of(t);
+    let worst = s.worst
+        + camac::worst_words(limit, camac::qmode_of(t), camac::position_of(t), words);
+    let direction = camac::direction_of(t);
+    match direction {
+        Direction::Incoming => Counts {
+            worst,
+            incoming: packing::mark_after_words(wide, words, s.incoming),
+            outgoing: s.outgoing,
+        },
+        Direction::Outgoing => Counts {
+            worst,
+            incoming: s.incoming,
+            outgoing: packing::mark_after_words(wide, words, s.outgoing),
+        },
+        Direction::Neither => Counts {
+            worst,
+            incoming: s.incoming,
+            outgoing: s.outgoing,
+        },
+    }
+}

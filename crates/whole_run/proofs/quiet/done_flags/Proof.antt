@@ -1,0 +1,33 @@
+-- `done_flags` is `doneFlags`: each arm is a clause of it.
+use mathlib.Core.Path.{sym, ap}
+use borrow.Author.Needs.{needs}
+use Rattle.whole_run.specs.model.Quiet.{doneFlags}
+use Rattle.whole_run.proofs.quiet.done_flags.Statement.{statement}
+use Rattle.whole_run.proofs.quiet.done_flags.Tie as tie
+
+enum-told : tie.Need-enum-told
+enum-told c = search needs
+
+enum-told-2 : tie.Need-enum-told-2
+enum-told-2 c = search needs
+
+enum-told-3 : tie.Need-enum-told-3
+enum-told-3 c = search needs
+
+enum-told-4 : tie.Need-enum-told-4
+enum-told-4 c = search needs
+
+returns : tie.Need-returns
+returns c = ap doneFlags (sym (c .enum-told .given .1))
+
+returns-2 : tie.Need-returns-2
+returns-2 c = ap doneFlags (sym (c .enum-told2 .given .1))
+
+returns-3 : tie.Need-returns-3
+returns-3 c = ap doneFlags (sym (c .enum-told3 .given .1))
+
+returns-4 : tie.Need-returns-4
+returns-4 c = ap doneFlags (sym (c .enum-told4 .given .1))
+
+pub done-flags-spec : {M : Type 1} → statement M
+done-flags-spec = tie.close (tie.spec enum-told enum-told-2 enum-told-3 enum-told-4 returns returns-2 returns-3 returns-4)

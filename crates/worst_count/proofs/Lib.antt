@@ -1,0 +1,13 @@
+pub mod StatusBits
+pub mod Live
+pub mod RunOn
+pub mod Move
+pub mod Take
+pub mod Admitted
+pub mod Sequences
+pub mod Ending
+pub mod WorstHeld
+pub mod WorstReached
+pub mod Bound
+pub mod FitKept
+pub mod Cases
