@@ -7,6 +7,7 @@ ghost use Rattle.camac.specs.Scan.{stations, positions};
 ghost use lib.Dec.{leb};
 ghost use Rattle.camac.specs.Modes.{worstWords, isScan, done, leaves, spent, scanLeaves, noX, noQInStop, triesAfter, positionAfter, mostLeft, triesFit, samePosition, positionFits};
 ghost use Rattle.base.specs.Checks.{if_then_else_};
+ghost use Rattle.camac.specs.model.Answers.{wordFlags, waitFlags, canWait, wordsAhead, placeAfterWords, placeAfterWait};
 
 pub enum QMode {
     Stop,
@@ -249,5 +250,90 @@ pub fn most_left(
         QMode::Repeat => base::less(words * base::u64_of_size(limit), base::u64_of_size(tries))
             + rest,
         QMode::Scan => most_of_scan(p, words, rest),
+    }
+}
+
+// Many answers at once: by their flags, and with a position as one number, N * 16 + A. A scan's last station begins at FIRST_OF_LAST and
+// its last position is LAST.
+const FIRST_OF_LAST: usize = 0x170;
+
+const LAST: usize = 0x17F;
+
+// The flags that make an answer a word: of these just Q and X are set.
+pub fn word_flags(q: QMode, ad: bool) -> u8
+    ensures { λ r. ⌜ r ≡ wordFlags q ad ⌝ }
+{
+    match q {
+        QMode::Stop => if ad { 0x01 } else { 0x33 },
+        QMode::Ignore => if ad { 0x00 } else { 0x32 },
+        QMode::Repeat => if ad { 0x01 } else { 0x33 },
+        QMode::Scan => if ad { 0x03 } else { 0x33 },
+    }
+}
+
+// The flags by which an answer that is no word is no cause: of these just X is set.
+pub fn wait_flags(q: QMode, ad: bool) -> u8
+    ensures { λ r. ⌜ r ≡ waitFlags q ad ⌝ }
+{
+    match q {
+        QMode::Stop => if ad { 0x00 } else { 0x32 },
+        QMode::Ignore => if ad { 0x00 } else { 0x32 },
+        QMode::Repeat => if ad { 0x00 } else { 0x32 },
+        QMode::Scan => if ad { 0x00 } else { 0x30 },
+    }
+}
+
+// Whether there is a next try after an answer that is no word. Tries are below R.
+pub fn can_wait(q: QMode, limit: usize, tries: usize, position: usize) -> bool
+    requires { ⌜ tries < 2 ^ 16 ⌝ }
+    ensures { λ r. ⌜ r ≡ canWait q limit tries position ⌝ }
+{
+    match q {
+        QMode::Stop => false,
+        QMode::Ignore => false,
+        QMode::Repeat => tries + 1 < limit,
+        QMode::Scan => position < FIRST_OF_LAST,
+    }
+}
+
+// How many of the words left can be done one after the other before a scan leaves.
+pub fn words_ahead(q: QMode, position: usize, left: usize) -> usize
+    requires { ⌜ (q ≡ QMode.Scan → position ≤ 0x17F) ⌝ }
+    ensures { λ r. ⌜ r ≡ wordsAhead q position left ⌝ }
+{
+    match q {
+        QMode::Stop => left,
+        QMode::Ignore => left,
+        QMode::Repeat => left,
+        QMode::Scan => {
+            let before = LAST - position;
+            if before + 1 < left { before } else { left }
+        }
+    }
+}
+
+// The position behind some words. Both are an admitted list's.
+pub fn place_after_words(q: QMode, position: usize, words: usize) -> usize
+    requires { ⌜ (position < 2 ^ 16) × (words < 2 ^ 32) ⌝ }
+    ensures { λ r. ⌜ r ≡ placeAfterWords q position words ⌝ }
+{
+    match q {
+        QMode::Stop => position,
+        QMode::Ignore => position,
+        QMode::Repeat => position,
+        QMode::Scan => position + words,
+    }
+}
+
+// The position after an answer that is no word.
+pub fn place_after_wait(q: QMode, position: usize) -> usize
+    requires { ⌜ position < 2 ^ 16 ⌝ }
+    ensures { λ r. ⌜ r ≡ placeAfterWait q position ⌝ }
+{
+    match q {
+        QMode::Stop => position,
+        QMode::Ignore => position,
+        QMode::Repeat => position,
+        QMode::Scan => (position / 16 + 1) * 16,
     }
 }
