@@ -16,45 +16,19 @@ use Rattle.listfile.specs.model.Table.{TableRight}
 use Rattle.walk.specs.Walk.{movedBy}
 use Rattle.camac.specs.Modes.{done, spent, scanLeaves, noX, noQInStop, triesAfter, positionAfter}
 use Rattle.reply.specs.Causes.{parityError}
-use Rattle.reply.specs.Status.{_sets_, bitsOf}
 use Rattle.reply.specs.Effect.{noteAfter, storedBy}
 use Rattle.camac.specs.declared.modes.Answer.{Answer}
 use Rattle.reply.specs.declared.records.Record.{Record}
 use Rattle.step.specs.model.Onward.{Going}
 use Rattle.whole_run.specs.model.Row.{isNoScan, wordIn}
+pub use Rattle.whole_run.specs.model.Words.{answerBy}
+unfoldable pub use Rattle.whole_run.specs.model.Words.{flagBits}
 use Rattle.whole_run.specs.declared.quiet.Rules.{Rules}
 use Rattle.whole_run.specs.declared.quiet.Effect.{Effect}
 use Rattle.whole_run.specs.declared.quiet.Effect.the-variants.{Word, Last, Wait}
 use Rattle.walk.specs.Walk.{spotAfter}
 
 -- Flags ------------------------------------------------------------------------------------------------------------------
-
--- the answer with these flags and this data
-abbrev pub answerBy : ℕ → ℕ → Answer
-answerBy f word = record {
-  q = eqb (f % 2) 1;
-  x = eqb (f / 2 % 2) 1;
-  err = eqb (f / 4 % 2) 1;
-  derr = eqb (f / 8 % 2) 1;
-  tpe = eqb (f / 16 % 2) 1;
-  lpe = eqb (f / 32 % 2) 1;
-  word = word;
-}
-
--- the status bits of an answer that is no cause
-abbrev pub bitsBy : Answer → ℕ
-bitsBy a = bitsOf (
-    a .derr sets 26
-    ∷ a .err sets 23
-    ∷ a .lpe sets 21
-    ∷ a .tpe sets 20
-    ∷ (a .tpe || (a .lpe || a .err)) sets 18
-    ∷ not (a .x) sets 17
-    ∷ not (a .q) sets 16
-    ∷ [])
-
-unfoldable pub flagBits : ℕ → ℕ
-flagBits f = bitsBy (answerBy f 0)
 
 -- TPE, LPE and X, which are judged where AD = 0
 abbrev pub unlessAd : Bool → ℕ → ℕ
