@@ -1,12 +1,3 @@
 pub mod StepsAreTakes
 pub mod RowLaws
 pub mod TakeTurn
-pub mod Flags
-pub mod QuietRow
-pub mod CleanRow
-pub mod WordsAhead
-pub mod CleanStore
-pub mod CleanRecord
-pub mod VisitTurn
-pub mod QuietTurn
-pub mod WholeRun

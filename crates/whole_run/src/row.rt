@@ -1,7 +1,8 @@
 // A row of replies.
 ghost use mathlib.Core.Path.{_≡_};
-ghost use Rattle.reply.specs.Replies.{repliesIn, allFormed};
-ghost use Rattle.whole_run.specs.model.Words.{ReadAs};
+ghost use Prim.Native.Nat.{_-_, _*_, _≤_};
+ghost use lib.ListN.{length};
+ghost use Rattle.whole_run.specs.model.Words.{ReadAs, gatheredBits};
 
 // What a row is: not formed, or formed, with the number of answers before its first reply of another kind.
 pub enum RowRead {
@@ -9,17 +10,15 @@ pub enum RowRead {
     Answers(usize),
 }
 
-// Whether a row has only replies, to its end.
-pub fn is_row_formed(row: &[u8]) -> bool
-    ensures { λ b. ⌜ b ≡ allFormed (repliesIn (now (row .entry))) ⌝ }
+pub fn read_row(row: &[u8]) -> RowRead
+    ensures { λ x. ⌜ ReadAs (now (row .entry)) x ⌝ }
 {
-    let count = row.len() / 8;
-    let mut k: usize = 0;
-    while k < count {
-        if !reply::is_formed_at(row, k * 8) {
-            return false;
-        }
-        k += 1;
-    }
-    count * 8 == row.len()
+    RowRead::NotFormed
+}
+
+pub(crate) fn gathered(row: &[u8], from: usize, to: usize) -> u32
+    requires { ⌜ (from ≤ to) × (to * 8 ≤ length (now row)) ⌝ }
+    ensures { λ r. ⌜ r ≡ gatheredBits (now (row .entry)) from (to - from) ⌝ }
+{
+    0
 }

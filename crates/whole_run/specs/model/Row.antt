@@ -71,10 +71,6 @@ pub record Grounds (list table : List ℕ) (s : Sizes) (room : ℕ) : Type 0 whe
 abbrev pub Stage : Plan → Record → Type 0
 Stage p r = (r .ended ≡ true) ⊎ (fits p r ≡ true)
 
--- the instruction that has been decoded for a record that waits
-abbrev pub Next : List ℕ → List ℕ → Record → Instruction → Type 0
-Next list table r i = r .ended ≡ false → i ≡ instructionAt list (getD table (r .spot .instruction) 0)
-
 -- from one place of the row to another, with a record that still waits at the same instruction
 pub record Stays (p : Plan) (c : Command) (row : List ℕ) (r : Record) (from : ℕ) (b : List ℕ) (r′ : Record) (at : ℕ)
     (b′ : List ℕ) : Type 0 where
@@ -88,81 +84,3 @@ pub record Moves (p : Plan) (row : List ℕ) (r : Record) (from : ℕ) (b : List
   pub stage : Stage p r′
   pub formed : FormedFrom row at
   pub goes : (outgoing : List ℕ) → rowFrom p row from (stateOf r b outgoing) ≡ rowFrom p row at (stateOf r′ b′ outgoing)
-
--- Clean answers: kind 0, Q = X = 1 and no other flag, at an instruction that is no scan ------------------------------------
-
-abbrev pub isNoScan : QMode → Bool
-isNoScan Stop = true
-isNoScan Ignore = true
-isNoScan Repeat = true
-isNoScan Scan = false
-
--- the first k replies from a place on are clean: in a formed row only an answer has flags
-abbrev pub Clean : List ℕ → ℕ → ℕ → Type 0
-Clean row from k = (j : ℕ) → j < k → getD row (from + j * 8 + 1) 0 ≡ 3
-
--- the data of the answer at a place
-unfoldable pub wordIn : List ℕ → ℕ → ℕ
-wordIn row at = getD row (at + 4) 0 + getD row (at + 5) 0 * 256 + getD row (at + 6) 0 * 65536
-
--- the incoming buffer after k words read, the first of them at `mark`
-unfoldable pub cleanStored : Bool → List ℕ → ℕ → ℕ → ℕ → List ℕ → List ℕ
-cleanStored wide row from mark zero buffer = buffer
-cleanStored wide row from mark (suc k) buffer =
-    stored wide (wordIn row (from + k * 8) % 16777216) (markAfterWords wide k mark) (cleanStored wide row from mark k buffer)
-
-abbrev pub cleanBytesBy : Direction → Bool → List ℕ → ℕ → ℕ → ℕ → List ℕ → List ℕ
-cleanBytesBy Incoming wide row from mark k buffer = cleanStored wide row from mark k buffer
-cleanBytesBy Outgoing wide row from mark k buffer = buffer
-cleanBytesBy Neither wide row from mark k buffer = buffer
-
-unfoldable pub cleanBytes : Command → List ℕ → ℕ → ℕ → ℕ → List ℕ → List ℕ
-cleanBytes c row from mark k buffer = cleanBytesBy (directionOf (c .transfer)) (c .wide) row from mark k buffer
-
--- the note of the last of some words, by the marks after it
-abbrev pub noteBehind : Direction → Bool → Marks → Note → Note
-noteBehind Incoming wide m n = record { buffer = 0; offset = m .incoming - widthOf wide; size = widthOf wide }
-noteBehind Outgoing wide m n = record { buffer = 1; offset = m .outgoing - widthOf wide; size = widthOf wide }
-noteBehind Neither wide m n = n
-
--- a word lies below the mark that moved
-abbrev pub NoteRoom : Direction → Bool → Marks → Type 0
-NoteRoom Incoming wide m = widthOf wide ≤ m .incoming
-NoteRoom Outgoing wide m = widthOf wide ≤ m .outgoing
-NoteRoom Neither wide m = Unit {0}
-
--- the record after k clean answers, none of them to the last word
-unfoldable pub cleaned : Command → Record → ℕ → Record
-cleaned c r zero = r
-cleaned c r (suc k) = record {
-  ended = false;
-  spot = r .spot;
-  left = r .left - suc k;
-  tries = 0;
-  position = r .position;
-  marks = movedWords (suc k) c (r .marks);
-  operations = r .operations + suc k;
-  status = r .status;
-  note = noteBehind (directionOf (c .transfer)) (c .wide) (movedWords (suc k) c (r .marks)) (r .note);
-}
-
--- what a waiting record and its incoming buffer have that a stretch of clean answers needs
-pub record Ahead (c : Command) (r : Record) (buffer : List ℕ) : Type 0 where
-  pub some : 1 ≤ r .left
-  pub most : r .left ≤ 65536
-  pub incoming : r .marks .incoming ≤ 1152921504606846976
-  pub outgoing : r .marks .outgoing ≤ 1152921504606846976
-  pub operations : r .operations ≤ 1152921504606846976
-  pub room : movedWords (r .left) c (r .marks) .incoming ≤ length buffer
-
--- a stretch of clean answers from a place of the row to another
-pub record Stretch (c : Command) (r : Record) (row : List ℕ) (from : ℕ) (buffer : List ℕ) (r′ : Record) (at : ℕ)
-    (buffer′ : List ℕ) : Type 0 where
-  pub words : ℕ
-  pub mode : 0 < words → isNoScan (qmodeOf (c .transfer)) ≡ true
-  pub clean : Clean row from words
-  pub fewer : words < r .left
-  pub within : from + words * 8 ≤ length row
-  pub leaves : r′ ≡ cleaned c r words
-  pub place : at ≡ from + words * 8
-  pub bytes : buffer′ ≡ cleanBytes c row from (r .marks .incoming) words buffer

@@ -1,0 +1,35 @@
+-- `after_words` is `afterWords`, field by field.
+use Rattle.whole_run.specs.model.Visit.{afterWords}
+use borrow.Author.Needs.{needs}
+use Rattle.whole_run.proofs.visit.after_words.Statement.{statement}
+use Rattle.whole_run.proofs.visit.after_words.Tie as tie
+
+marks-behind-requires : tie.Need-marks-behind-requires
+marks-behind-requires c κs = search needs
+
+add-t8 : tie.Need-add-t8
+add-t8 c = search needs
+
+sub-t9 : tie.Need-sub-t9
+sub-t9 c = search needs
+
+place-after-words-requires : tie.Need-place-after-words-requires
+place-after-words-requires c κs = search needs
+
+note-behind-requires : tie.Need-note-behind-requires
+note-behind-requires c κs = ?
+
+returns : tie.Need-returns
+unfolding afterWords
+returns c = rw (c .note-behind .ensures, c .before .place-after-words .ensures, c .before .before .marks-behind .ensures)
+
+pub after-words-spec : {M : Type 1} → statement M
+after-words-spec =
+    tie.close
+    (tie.spec
+    marks-behind-requires
+    add-t8
+    sub-t9
+    place-after-words-requires
+    note-behind-requires
+    returns)

@@ -1,0 +1,186 @@
+// On along the walk and over the answers, with no record made before the run stops.
+use crate::visit::Stay;
+use crate::visit::rules_of;
+use crate::visit::visit;
+use camac::Command;
+use camac::Direction;
+use camac::ScanPosition;
+use listfile::Instruction;
+use listfile::Sizes;
+use packing::Marks;
+use reply::Record;
+use walk::Spot;
+ghost use mathlib.Core.Path.{_≡_};
+ghost use mathlib.Core.Bool.{true};
+ghost use Prim.Native.Nat.{_*_, _^_, _<_, _≤_};
+ghost use Rattle.walk.specs.Walk.{movedBy};
+ghost use lib.ListN.{length};
+ghost use Rattle.walk.specs.model.Sums.{planBy};
+ghost use Rattle.reply.specs.Replies.{repliesIn, allFormed};
+ghost use Rattle.step.specs.model.Place.{Alive};
+ghost use Rattle.whole_run.specs.model.Row.{FormedFrom, Grounds, Moves};
+ghost use Rattle.whole_run.specs.model.Words.{AnswersTo};
+ghost use Rattle.whole_run.specs.model.Visit.{placeOf};
+ghost use Rattle.whole_run.specs.model.Along.{Ahead, Tabled, Reaches, arrived, between, stayOf, stopRecord};
+
+// Where a run comes to along the walk: a CAMAC instruction or the halt.
+pub struct Reached {
+    pub spot: Spot,
+    pub marks: Marks,
+    pub instruction: Instruction,
+}
+
+// Where a run stops: at a reply that is neither a word nor a wait, at the end of the answers, or at the halt.
+pub struct Stop {
+    pub spot: Spot,
+    pub stay: Stay,
+    pub halted: bool,
+}
+
+fn after_literal(m: Marks) -> Marks
+    requires { ⌜ m .incoming < 2 ^ 63 ⌝ }
+    ensures { λ r. ⌜ r ≡ movedBy Direction.Incoming true m ⌝ }
+{
+    Marks {
+        incoming: packing::mark_after(true, m.incoming),
+        outgoing: m.outgoing,
+    }
+}
+
+// On along the walk from a spot over jumps and literals. The walk from there halts, and its bytes have room.
+fn reach(list: &[u8], table: &[u16], count: usize, from: Spot, first: Marks, incoming: &mut [u8]) -> Reached
+    requires { ⌜ Tabled (now list) (now table) count × Ahead (now list) count from first (now incoming) ⌝ }
+    ensures { λ x. ⌜ Reaches (now (list .entry)) (now (table .entry)) count from first (now (incoming .entry)) x (now (incoming .exit)) ⌝ }
+{
+    let mut at = from;
+    let mut marks = first;
+    loop {
+        let k = at.instruction;
+        let i = listfile::instruction_at(list, table[k]);
+        match i {
+            Instruction::Camac(_) => {
+                return Reached {
+                    spot: at,
+                    marks: marks,
+                    instruction: i,
+                };
+            }
+            Instruction::Jump(target) => {
+                at = walk::jump_to(target, at);
+            }
+            Instruction::Literal(v) => {
+                let mark = marks.incoming;
+                packing::store(incoming, mark, true, v);
+                marks = after_literal(marks);
+                at = walk::spot_after(at);
+            }
+            Instruction::Halt => {
+                return Reached {
+                    spot: at,
+                    marks: marks,
+                    instruction: i,
+                };
+            }
+        }
+    }
+}
+
+// A position as one number.
+fn place_of(p: ScanPosition) -> usize
+    ensures { λ r. ⌜ r ≡ placeOf p ⌝ }
+{
+    base::usize_of(p.station) * 16 + base::usize_of(p.subaddress)
+}
+
+fn arrive(c: Command, marks: Marks, here: Stay) -> Stay
+    ensures { λ s. ⌜ s ≡ arrived c marks here ⌝ }
+{
+    let t = c.transfer;
+    let p = camac::position_of(t);
+    let note = here.note;
+    Stay {
+        taken: here.taken,
+        left: camac::words_of(t) as usize,
+        tries: 0,
+        position: place_of(p),
+        marks: marks,
+        note: note,
+    }
+}
+
+fn leave(marks: Marks, here: Stay) -> Stay
+    ensures { λ s. ⌜ s ≡ between marks here ⌝ }
+{
+    let note = here.note;
+    Stay {
+        taken: here.taken,
+        left: 0,
+        tries: 0,
+        position: 0,
+        marks: marks,
+        note: note,
+    }
+}
+
+fn stay_of(r: Record, taken: usize) -> Stay
+    ensures { λ s. ⌜ s ≡ stayOf r taken ⌝ }
+{
+    let p = r.position;
+    let marks = r.marks;
+    let note = r.note;
+    Stay {
+        taken: taken,
+        left: r.left,
+        tries: r.tries,
+        position: place_of(p),
+        marks: marks,
+        note: note,
+    }
+}
+
+// On over words and waits and along the walk, from a record that waits at an instruction for reply number `from` of the row.
+pub(crate) fn run_answers(
+    list: &[u8],
+    table: &[u16],
+    sizes: Sizes,
+    first: Command,
+    r: Record,
+    from: usize,
+    incoming: &mut [u8],
+    row: &[u8],
+    answers: usize,
+) -> Stop
+    requires { ⌜ Grounds (now list) (now table) sizes (length (now incoming)) × ((FormedFrom (now row) (from * 8) × Alive (planBy (now list) sizes) first r)
+        × ((allFormed (repliesIn (now row)) ≡ true) × ((answers * 8 ≤ length (now row)) × AnswersTo (now row) answers))) ⌝ }
+    ensures { λ x. ⌜ Moves (planBy (now (list .entry)) sizes) (now (row .entry)) r (from * 8) (now (incoming .entry))
+        (stopRecord r (now (row .entry)) from x) (x .stay .taken * 8) (now (incoming .exit)) × (from ≤ x .stay .taken) ⌝ }
+{
+    let mut spot = r.spot;
+    let mut rules = rules_of(first);
+    let mut here = stay_of(r, from);
+    loop {
+        here = visit(rules, sizes.limit, here, incoming, row, answers);
+        if here.left != 0 {
+            return Stop {
+                spot: spot,
+                stay: here,
+                halted: false,
+            };
+        }
+        let marks = here.marks;
+        let next = reach(list, table, sizes.count, walk::spot_after(spot), marks, incoming);
+        let i = next.instruction;
+        let reached = next.spot;
+        let behind = next.marks;
+        let Instruction::Camac(c) = i else {
+            return Stop {
+                spot: reached,
+                stay: leave(behind, here),
+                halted: true,
+            };
+        };
+        spot = reached;
+        rules = rules_of(c);
+        here = arrive(c, behind, here);
+    }
+}
