@@ -1,3 +1,9 @@
 pub mod StepsAreTakes
 pub mod RowLaws
+pub mod WordLaws
+pub mod BitLaws
+pub mod ReadLaws
+pub mod GatherLaws
 pub mod TakeTurn
+pub mod Flags
+pub mod VisitRoom

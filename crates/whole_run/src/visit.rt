@@ -204,7 +204,10 @@ fn visit_on(rules: Rules, limit: usize, from: Stay, incoming: &mut [u8], row: &[
     ensures { λ s. ⌜ Passed rules limit (now (row .entry)) answers from (now (incoming .entry)) s (now (incoming .exit)) ⌝ }
 {
     let mut here = from;
-    while here.left != 0 && here.taken < answers {
+    while here.left != 0 {
+        if answers <= here.taken {
+            return here;
+        }
         if is_word_at(row, here.taken, rules.word) {
             let q = rules.q;
             let ahead = camac::words_ahead(q, here.position, here.left);
@@ -229,9 +232,13 @@ pub(crate) fn visit(rules: Rules, limit: usize, from: Stay, incoming: &mut [u8],
     requires { ⌜ (limit < 65536) × Roomy rules (now row) answers from (now incoming) ⌝ }
     ensures { λ s. ⌜ Passed rules limit (now (row .entry)) answers from (now (incoming .entry)) s (now (incoming .exit)) ⌝ }
 {
-    if from.left == 1 && from.taken < answers && is_word_at(row, from.taken, rules.word) {
-        last_word(rules, from, incoming, row, answers);
-        return after_words(rules, from, 1);
+    if from.left == 1 {
+        if from.taken < answers {
+            if is_word_at(row, from.taken, rules.word) {
+                last_word(rules, from, incoming, row, answers);
+                return after_words(rules, from, 1);
+            }
+        }
     }
     visit_on(rules, limit, from, incoming, row, answers)
 }

@@ -4,12 +4,14 @@ use Prim.Native.Nat.{ℕ, zero, suc, _+_, _*_, _/_, _%_, _≤_, _<_}
 use mathlib.Core.Path.{_≡_}
 use mathlib.Core.Bool.{Bool, true, false, _||_, not}
 use mathlib.Core.List.{List, [], _∷_}
-use lib.Bits.{bitAnd, bitOr}
+use lib.Bits.{bitAnd, bitOr, bitXor}
 use lib.Dec.{eqb}
-use lib.ListN.{length, getD}
+use lib.ListN.{length, getD, take, drop}
+use Rattle.base.specs.Bytes.{quadAt}
+use Rattle.base.specs.Checks.{if_then_else_}
 use Rattle.camac.specs.declared.modes.Answer.{Answer}
 use Rattle.packing.specs.Packing.{markAfterWords, stored}
-use Rattle.reply.specs.Replies.{repliesIn, allFormed}
+use Rattle.reply.specs.Replies.{isFormed, repliesIn, allFormed}
 use Rattle.reply.specs.Status.{_sets_, bitsOf}
 use Rattle.whole_run.specs.declared.row.RowRead.{RowRead}
 use Rattle.whole_run.specs.declared.row.RowRead.the-variants.{NotFormed, Answers}
@@ -24,6 +26,23 @@ AnswersTo row k = (j : ℕ) → j < k → getD row (j * 8) 0 ≡ 0
 abbrev pub ReadAs : List ℕ → RowRead → Type 0
 ReadAs row NotFormed = allFormed (repliesIn row) ≡ false
 ReadAs row (Answers k) = (allFormed (repliesIn row) ≡ true) × ((k * 8 ≤ length row) × AnswersTo row k)
+
+-- of the replies before number `to`, those from `from` on are formed
+abbrev pub FormedOver : List ℕ → ℕ → ℕ → Type 0
+FormedOver row from to = (j : ℕ) → j < to → from ≤ j → isFormed (take 8 (drop (j * 8) row)) ≡ true
+
+-- and those of them before number k are answers
+abbrev pub AnswersOver : List ℕ → ℕ → ℕ → ℕ → Type 0
+AnswersOver row from to k = (j : ℕ) → j < to → from ≤ j → j < k → getD row (j * 8) 0 ≡ 0
+
+-- what reading a stretch of a row says, with `most` answers found before it
+abbrev pub StretchReadAs : List ℕ → ℕ → ℕ → ℕ → RowRead → Type 0
+StretchReadAs row from to most NotFormed = allFormed (repliesIn row) ≡ false
+StretchReadAs row from to most (Answers k) = (k ≤ most) × (FormedOver row from to × AnswersOver row from to k)
+
+-- bits that some bits gathered over a stretch lack, each reply of it lacks
+abbrev pub BitsOver : List ℕ → ℕ → ℕ → ℕ → Type 0
+BitsOver row from to bits = (mask : ℕ) → bitAnd bits mask ≡ 0 → (j : ℕ) → j < to → from ≤ j → bitAnd (quadAt row (j * 8)) mask ≡ 0
 
 -- Words ------------------------------------------------------------------------------------------------------------------
 
@@ -78,3 +97,16 @@ flagBits f = bitsBy (answerBy f 0)
 unfoldable pub gatheredBits : List ℕ → ℕ → ℕ → ℕ
 gatheredBits row from zero = 0
 gatheredBits row from (suc k) = bitOr (gatheredBits row from k) (flagBits (flagsAt row (from + k)))
+
+-- the same over flags in which Q and X are negated, so that each of six sets a status bit
+abbrev pub raised : ℕ → ℕ
+raised f = bitXor (f % 64) 3
+
+unfoldable pub raisedOver : List ℕ → ℕ → ℕ → ℕ
+raisedOver row from zero = 0
+raisedOver row from (suc k) = bitOr (raisedOver row from k) (raised (flagsAt row (from + k)))
+
+unfoldable pub raisedBits : ℕ → ℕ
+raisedBits g =
+    bitOr (bitAnd g 51 * 65536)
+    (bitOr (bitAnd g 4 * 2097152) (bitOr (bitAnd g 8 * 8388608) (if eqb (bitAnd g 52) 0 then 0 else 262144)))

@@ -15,7 +15,7 @@ place-of-requires c κs = search needs
 
 returns : tie.Need-returns
 unfolding arrived
-returns c = rw (c .place-of .ensures, c .before .words-of .ensures .0, c .before .before .position-of .ensures)
+returns c = rw (c .place-of .ensures, c .before .words-of .ensures, c .before .before .before .position-of .ensures)
 
 pub arrive-spec : {M : Type 1} → statement M
 arrive-spec = tie.close (tie.spec position-of-requires words-of-requires place-of-requires returns)

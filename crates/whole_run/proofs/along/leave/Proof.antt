@@ -1,4 +1,5 @@
 -- `leave` is `between`, field by field.
+use mathlib.Core.Path.{refl}
 use Rattle.whole_run.specs.model.Along.{between}
 use Rattle.whole_run.proofs.along.leave.Statement.{statement}
 use Rattle.whole_run.proofs.along.leave.Tie as tie

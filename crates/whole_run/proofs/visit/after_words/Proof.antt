@@ -1,4 +1,5 @@
 -- `after_words` is `afterWords`, field by field.
+use Rattle.whole_run.proofs.VisitRoom.{note-room}
 use Rattle.whole_run.specs.model.Visit.{afterWords}
 use borrow.Author.Needs.{needs}
 use Rattle.whole_run.proofs.visit.after_words.Statement.{statement}
@@ -17,11 +18,13 @@ place-after-words-requires : tie.Need-place-after-words-requires
 place-after-words-requires c κs = search needs
 
 note-behind-requires : tie.Need-note-behind-requires
-note-behind-requires c κs = ?
+note-behind-requires c κs = let start = c .before .before .before .before .before .before in
+    rw (c .before .before .before .marks-behind .ensures)
+    (note-room (start .args .rules .direction) (start .args .rules .wide) (start .args .words) (start .args .here .marks) (start .pre .0))
 
 returns : tie.Need-returns
 unfolding afterWords
-returns c = rw (c .note-behind .ensures, c .before .place-after-words .ensures, c .before .before .marks-behind .ensures)
+returns c = rw (c .note-behind .ensures, c .before .place-after-words .ensures, c .before .before .before .before .marks-behind .ensures)
 
 pub after-words-spec : {M : Type 1} → statement M
 after-words-spec =

@@ -1,17 +1,19 @@
+-- `last_word` stores the word of a read; a write and a control store nothing.
+use Rattle.whole_run.proofs.VisitRoom.{read-one, words-left, bytes-one, bytes-written, bytes-controlled}
+use mathlib.Core.Path.{refl, sym, _∙_}
+use native.Mathlib.Omega.{arith}
 use borrow.Author.Needs.{needs}
 use Rattle.whole_run.proofs.visit.last_word.Statement.{statement}
 use Rattle.whole_run.proofs.visit.last_word.Tie as tie
-use Rattle.whole_run.proofs.visit.last_word.Reads as reads
-use Rattle.whole_run.proofs.visit.last_word.Lts as lts
-use Rattle.whole_run.proofs.words.read_word.Reads as read-word-reads
 
--- src/visit.rt:158:35
 enum-told : tie.Need-enum-told
 enum-told c = search needs
 
--- src/visit.rt:158:13
 read-word-requires : tie.Need-read-word-requires
-read-word-requires c κs = ?
+read-word-requires c κs = let p = c .before .before .before .before .before .before .pre in (
+      read-one _ _ _ _ _ (p .0) (words-left _ _ _ _ _ (p .0) 1 (p .1)) (c .before .enum-told .given .1),
+      (omega (arith, p .1 .answered, p .0 .within), p .0 .row-formed),
+    )
 
 enum-told-2 : tie.Need-enum-told-2
 enum-told-2 c = search needs
@@ -19,21 +21,17 @@ enum-told-2 c = search needs
 enum-told-3 : tie.Need-enum-told-3
 enum-told-3 c = search needs
 
--- src/visit.rt:150:1
 same-length : tie.Need-same-length
 same-length c = search needs
 
--- src/visit.rt:150:1
 returns : tie.Need-returns
-returns c = ?
+returns c = bytes-one _ _ _ _ _ (c .before .before .before .before .enum-told .given .1) (c .before .before .read-word .ensures)
 
--- src/visit.rt:150:1
 returns-2 : tie.Need-returns-2
-returns-2 c = ?
+returns-2 c = bytes-written _ _ _ _ 1 (c .enum-told2 .given .1)
 
--- src/visit.rt:150:1
 returns-3 : tie.Need-returns-3
-returns-3 c = ?
+returns-3 c = bytes-controlled _ _ _ _ 1 (c .enum-told3 .given .1)
 
 pub last-word-spec : {M : Type 1} → statement M
 last-word-spec =

@@ -19,10 +19,10 @@ enum-told-3 : tie.Need-enum-told-3
 enum-told-3 c = search needs
 
 returns : tie.Need-returns
-returns c = rw (c .mark-behind .ensures, c .before .before .enum-told .given .1)
+returns c = rw (c .mark-behind .ensures, c .before .enum-told .given .1)
 
 returns-2 : tie.Need-returns-2
-returns-2 c = rw (c .mark-behind2 .ensures, c .before .before .enum-told2 .given .1)
+returns-2 c = rw (c .mark-behind2 .ensures, c .before .enum-told2 .given .1)
 
 returns-3 : tie.Need-returns-3
 returns-3 c = search needs

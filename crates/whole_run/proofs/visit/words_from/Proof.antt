@@ -1,50 +1,74 @@
+-- `words_from` counts the words of an instruction, and stores those that are read.
+use Rattle.whole_run.proofs.WordLaws.{first-word}
+use Rattle.whole_run.proofs.VisitRoom.{ahead-most, read-in, bytes-read, bytes-written, bytes-controlled}
+use native.Mathlib.Omega.{arith}
 use borrow.Author.Needs.{needs}
 use Rattle.whole_run.proofs.visit.words_from.Statement.{statement}
 use Rattle.whole_run.proofs.visit.words_from.Tie as tie
-use Rattle.whole_run.proofs.visit.words_from.Reads as reads
-use Rattle.whole_run.proofs.visit.words_from.Lts as lts
-use Rattle.whole_run.proofs.words.pass_words.Reads as pass-words-reads
-use Rattle.whole_run.proofs.words.read_words.Reads as read-words-reads
 
--- src/visit.rt:137:13
 enum-told : tie.Need-enum-told
 enum-told c = search needs
 
--- src/visit.rt:135:32
 read-words-requires : tie.Need-read-words-requires
-read-words-requires c κs = ?
+read-words-requires c κs =
+    let start = c .before .before .before .before .before .before in
+    let p = start .pre in (
+      p .2 .0,
+      (
+        omega (arith, p .2 .1 .1, p .0 .within),
+        (read-in _ _ _ _ _ (p .0) _ (omega (arith, p .2 .1 .0, ahead-most (start .args .rules .q) (start .args .here .position) (start .args .here .left))) (c .before .enum-told .given .1), (p .0 .row-formed, p .1 .are)),
+      ),
+    )
 
--- src/visit.rt:144:32
 enum-told-2 : tie.Need-enum-told-2
 enum-told-2 c = search needs
 
--- src/visit.rt:144:32
 pass-words-requires : tie.Need-pass-words-requires
-pass-words-requires c κs = search needs
+pass-words-requires c κs = let p = c .before .before .before .before .before .pre in omega (arith, p .2 .1 .1, p .0 .within)
 
--- src/visit.rt:145:31
 enum-told-3 : tie.Need-enum-told-3
 enum-told-3 c = search needs
 
--- src/visit.rt:145:31
 pass-words-requires-2 : tie.Need-pass-words-requires-2
-pass-words-requires-2 c κs = search needs
+pass-words-requires-2 c κs = let p = c .before .before .before .before .before .pre in omega (arith, p .2 .1 .1, p .0 .within)
 
--- src/visit.rt:126:1
 same-length : tie.Need-same-length
 same-length c = search needs
 
--- src/visit.rt:126:1
 returns : tie.Need-returns
-returns c = ?
+returns c = let p = c .before .before .before .before .before .before .before .before .before .pre in
+    let k = c .before .before .read-words .ensures in (
+      record { some = k .0; ahead = omega (arith, k .1 .0, p .2 .1 .0); answered = omega (arith, k .1 .0, p .2 .1 .1); are = k .1 .1 .0 },
+      bytes-read _ _ _ _ _ _ (c .before .before .before .before .enum-told .given .1) (k .1 .1 .1),
+    )
 
--- src/visit.rt:126:1
 returns-2 : tie.Need-returns-2
-returns-2 c = ?
+returns-2 c =
+    let start = c .before .before .before .before .before .before in
+    let p = start .pre in
+    let k = c .pass-words .ensures in (
+      record {
+        some = k .1 .1 (p .2 .0) (first-word (start .args .rules .word) (start .args .row .now) (start .args .here .taken) (p .1 .are));
+        ahead = omega (arith, k .0, p .2 .1 .0);
+        answered = omega (arith, k .0, p .2 .1 .1);
+        are = k .1 .0;
+      },
+      bytes-written _ _ _ _ _ (c .before .enum-told2 .given .1),
+    )
 
--- src/visit.rt:126:1
 returns-3 : tie.Need-returns-3
-returns-3 c = ?
+returns-3 c =
+    let start = c .before .before .before .before .before .before in
+    let p = start .pre in
+    let k = c .pass-words2 .ensures in (
+      record {
+        some = k .1 .1 (p .2 .0) (first-word (start .args .rules .word) (start .args .row .now) (start .args .here .taken) (p .1 .are));
+        ahead = omega (arith, k .0, p .2 .1 .0);
+        answered = omega (arith, k .0, p .2 .1 .1);
+        are = k .1 .0;
+      },
+      bytes-controlled _ _ _ _ _ (c .before .enum-told3 .given .1),
+    )
 
 pub words-from-spec : {M : Type 1} → statement M
 words-from-spec =

@@ -1,36 +1,33 @@
+-- `pad` writes the pad of a 24-bit word: its test is that of `padAt`, and two zero bytes are one `sets`.
 use borrow.Author.Needs.{needs}
+use mathlib.Core.Path.{refl}
+use native.Mathlib.Omega.{arith}
+use native.Mathlib.Numerals.{add-one}
+use lib.ListN.{length-set}
+use Rattle.whole_run.proofs.WordLaws.{pad-two, pad-none, aligned-two, aligned-none}
 use Rattle.whole_run.proofs.words.pad.Statement.{statement}
 use Rattle.whole_run.proofs.words.pad.Tie as tie
-use Rattle.whole_run.proofs.words.pad.Reads as reads
-use Rattle.whole_run.proofs.words.pad.Lts as lts
 
--- src/words.rt:70:9
 slice-write-incoming : tie.Need-slice-write-incoming
-slice-write-incoming c = ?
+slice-write-incoming c = omega (arith, aligned-two _ (c .if1 .taken))
 
--- src/words.rt:71:18
 add-incoming : tie.Need-add-incoming
 add-incoming c = search needs
 
--- src/words.rt:71:9
 slice-write-incoming-2 : tie.Need-slice-write-incoming-2
-slice-write-incoming-2 c = ?
+slice-write-incoming-2 c = simp length-set (omega (arith, aligned-two _ (c .if1 .taken)))
 
--- src/words.rt:72:16
 add-result : tie.Need-add-result
-add-result c = ?
+add-result c = omega (arith, aligned-two _ (c .if1 .taken))
 
--- src/words.rt:72:9
 same-length : tie.Need-same-length
 same-length c = search needs
 
--- src/words.rt:72:9
 returns : tie.Need-returns
-returns c = ?
+returns c = (rw (aligned-two _ (c .if1 .taken)), rw (pad-two _ (c .if1 .taken), add-one))
 
--- src/words.rt:65:1
 returns-2 : tie.Need-returns-2
-returns-2 c = ?
+returns-2 c = (rw (aligned-none _ (c .if1 .left)), rw (pad-none _ (c .if1 .left)))
 
 pub pad-spec : {M : Type 1} → statement M
 pad-spec =

@@ -1,46 +1,57 @@
+-- `pass_words` counts words. The loop's invariant: the first k answers are words. Where it stops early, the next is none, so that a first word is
+-- counted.
+use Prim.Native.Nat.{_+_, _-_, _*_, _≤_}
+use mathlib.Core.Path.{_≡_, sym, _∙_}
+use native.Mathlib.Omega.{arith}
+use borrow.Author.Tests.{not-true, not-false}
+use Rattle.whole_run.specs.model.Words.{WordsAt}
+use Rattle.whole_run.proofs.WordLaws.{words-none, words-more, first-passed}
 use Rattle.whole_run.proofs.words.pass_words.Statement.{statement}
 use Rattle.whole_run.proofs.words.pass_words.Tie as tie
-use Rattle.whole_run.proofs.words.pass_words.Reads as reads
-use Rattle.whole_run.proofs.words.pass_words.Lts as lts
-use Rattle.whole_run.proofs.words.is_word_at.Reads as is-word-at-reads
 
 abbrev Inv-loop : tie.InvT-loop
-Inv-loop row from most mask k₀ k = ?
+Inv-loop row from most mask k₀ k = (k ≤ most) × WordsAt mask row from k
 
 abbrev μ-loop : tie.MeasureT-loop
-μ-loop row from most mask k₀ k = ?
+μ-loop row from most mask k₀ k = most - k
 
--- src/words.rt:29:5
 loop-holds : tie.Need-loop-holds Inv-loop μ-loop
-loop-holds c = ?
+loop-holds c = let a = c .before .args in (omega arith, words-none (a .mask) (a .row .now) (a .from))
 
--- src/words.rt:30:29
 add-is-word-at : tie.Need-add-is-word-at Inv-loop μ-loop
-add-is-word-at c = ?
+add-is-word-at c = omega arith
 
--- src/words.rt:30:13
 is-word-at-requires : tie.Need-is-word-at-requires Inv-loop μ-loop
-is-word-at-requires c κs = ?
+is-word-at-requires c κs = omega arith
 
--- src/words.rt:31:13
 returns : tie.Need-returns Inv-loop μ-loop
-returns c = ?
+returns c =
+    let at-loop = c .before .before .before in
+    let a = at-loop .before .before .args in
+    let i = at-loop .loop .inv in (
+      i .0,
+      (
+        i .1,
+        λ some first. first-passed (a .mask) (a .row .now) (a .from) _ (sym (c .before .is-word-at .ensures) ∙ not-true _ (c .if1 .taken)) first,
+      ),
+    )
 
--- src/words.rt:33:9
 add-k : tie.Need-add-k Inv-loop μ-loop
-add-k c = ?
+add-k c = omega arith
 
--- src/words.rt:29:5
 loop-less : tie.Need-loop-less Inv-loop μ-loop
-loop-less c = ?
+loop-less c = omega arith
 
--- src/words.rt:29:5
 loop-again : tie.Need-loop-again Inv-loop μ-loop
-loop-again c = ?
+loop-again c =
+    let at-loop = c .before .before .before in
+    let a = at-loop .before .before .args in (
+      omega arith,
+      words-more (a .mask) (a .row .now) (a .from) _ (at-loop .loop .inv .1) (sym (c .before .is-word-at .ensures) ∙ not-false _ (c .if1 .left)),
+    )
 
--- src/words.rt:23:1
 returns-2 : tie.Need-returns-2 Inv-loop μ-loop
-returns-2 c = ?
+returns-2 c = let i = c .before .loop .inv in (i .0, (i .1, λ some first. omega arith))
 
 pub pass-words-spec : {M : Type 1} → statement M
 pass-words-spec =

@@ -1,44 +1,45 @@
+-- `put_narrow` stores the two low bytes of the answer's longword: they are bytes 4 and 5 of the answer.
+use Prim.Native.Nat.{_+_}
 use borrow.Author.Needs.{needs}
+use mathlib.Core.Path.{sym}
+use native.Mathlib.Omega.{arith}
+use native.Mathlib.Numerals.{add-one}
+use lib.ListN.{length-set}
+use Rattle.whole_run.proofs.WordLaws.{longword-bytes}
 use Rattle.whole_run.proofs.words.put_narrow.Statement.{statement}
 use Rattle.whole_run.proofs.words.put_narrow.Tie as tie
-use Rattle.whole_run.proofs.words.put_narrow.Reads as reads
-use Rattle.whole_run.proofs.words.put_narrow.Lts as lts
 
--- src/words.rt:43:19
 add-low : tie.Need-add-low
 add-low c = search needs
 
--- src/words.rt:43:15
 shared-slice-read-low : tie.Need-shared-slice-read-low
 shared-slice-read-low c = search needs
 
--- src/words.rt:44:20
 add-high : tie.Need-add-high
 add-high c = search needs
 
--- src/words.rt:44:16
 shared-slice-read-high : tie.Need-shared-slice-read-high
 shared-slice-read-high c = search needs
 
--- src/words.rt:45:5
 slice-write-incoming : tie.Need-slice-write-incoming
 slice-write-incoming c = search needs
 
--- src/words.rt:46:14
 add-incoming : tie.Need-add-incoming
 add-incoming c = search needs
 
--- src/words.rt:46:5
 slice-write-incoming-2 : tie.Need-slice-write-incoming-2
-slice-write-incoming-2 c = ?
+slice-write-incoming-2 c = simp length-set (omega arith)
 
--- src/words.rt:39:1
 same-length : tie.Need-same-length
 same-length c = search needs
 
--- src/words.rt:39:1
 returns : tie.Need-returns
-returns c = ?
+returns c =
+    let start = c .before .before in
+    let byte = c .shared-slice-known2 .given in
+    let at = start .args .at in
+    let b = longword-bytes (start .args .row .now) at (omega (arith, byte (at + 4))) (omega (arith, byte (at + 5))) (omega (arith, byte (at + 6))) in
+    rw (b .first, b .second, add-one (start .args .to))
 
 pub put-narrow-spec : {M : Type 1} → statement M
 put-narrow-spec =

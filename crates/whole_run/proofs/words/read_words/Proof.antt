@@ -1,39 +1,73 @@
+-- `read_words` pads, then reads: behind the pad the words lie where they lie with it, and at least one is read, since the first is a word.
+use Prim.Native.Nat.{_+_, _*_, _≤_}
 use borrow.Author.Needs.{needs}
+use mathlib.Core.Path.{_≡_, sym, ap, _∙_}
+use mathlib.Core.Bool.{true, false}
+use native.Mathlib.Omega.{arith}
+use lib.ListN.{length}
+use Rattle.packing.specs.Packing.{alignedMark, markAfterWords}
+use Rattle.whole_run.specs.model.Words.{wordsStored}
+use Rattle.whole_run.proofs.WordLaws.{first-word, aligned-right, aligned-words, narrow-mark, padded-words}
 use Rattle.whole_run.proofs.words.read_words.Statement.{statement}
 use Rattle.whole_run.proofs.words.read_words.Tie as tie
-use Rattle.whole_run.proofs.words.read_words.Reads as reads
-use Rattle.whole_run.proofs.words.read_words.Lts as lts
-use Rattle.whole_run.proofs.words.pad.Reads as pad-reads
-use Rattle.whole_run.proofs.words.read_narrow.Reads as read-narrow-reads
-use Rattle.whole_run.proofs.words.read_wide.Reads as read-wide-reads
 
--- src/words.rt:144:13
 pad-requires : tie.Need-pad-requires
-pad-requires c κs = ?
+pad-requires c κs =
+    let start = c .before .before .before .before in
+    omega (arith, aligned-words (start .args .most) (start .args .mark) (start .pre .0), rw (c .before .if1 .taken) at (start .pre .1 .1 .0))
 
--- src/words.rt:145:9
 read-wide-requires : tie.Need-read-wide-requires
-read-wide-requires c κs = ?
+read-wide-requires c κs =
+    let at-pad = c .before .before .before in
+    let at-if1 = at-pad .before .before in
+    let start = at-if1 .before .before .before in
+    let room = rw (at-if1 .if1 .taken) at (start .pre .1 .1 .0) in (
+      start .pre .1 .0,
+      (
+        omega (arith, aligned-words (start .args .most) (start .args .mark) (start .pre .0), room, at-pad .pad .ensures .0, at-pad .pad .kept .0),
+        (rw (at-pad .pad .ensures .0) (aligned-right (start .args .mark)), start .pre .1 .1 .1 .0),
+      ),
+    )
 
--- src/words.rt:145:9
 same-length : tie.Need-same-length
 same-length c = search needs
 
--- src/words.rt:145:9
 returns : tie.Need-returns
-returns c = ?
+returns c =
+    let e = c .before .before .read-wide .ensures in
+    let at-pad = c .before .before .before .before .before .before in
+    let at-if1 = at-pad .before .before in
+    let start = at-if1 .before .before .before in
+    let a = start .args in
+    let some = e .1 .1 .0 (start .pre .0) (first-word (a .mask) (a .row .now) (a .from) (start .pre .1 .1 .1 .1)) in (
+      some,
+      (
+        e .0,
+        (
+          e .1 .0,
+          e .1 .1 .1
+              ∙ rw (at-pad .pad .ensures .0, at-pad .pad .ensures .1, at-if1 .if1 .taken) (padded-words (a .row .now) (a .from) (a .mark) _ (a .incoming .now) some),
+        ),
+      ),
+    )
 
--- src/words.rt:147:5
 read-narrow-requires : tie.Need-read-narrow-requires
-read-narrow-requires c κs = ?
+read-narrow-requires c κs =
+    let start = c .before .before .before .before in
+    let room = rw (c .before .if1 .left) at (start .pre .1 .1 .0) in
+    (start .pre .1 .0, omega (arith, narrow-mark (start .args .most) (start .args .mark), room))
 
--- src/words.rt:129:1
 same-length-2 : tie.Need-same-length-2
 same-length-2 c = search needs
 
--- src/words.rt:129:1
 returns-2 : tie.Need-returns-2
-returns-2 c = ?
+returns-2 c =
+    let e = c .before .before .read-narrow .ensures in
+    let at-if1 = c .before .before .before .before in
+    let start = at-if1 .before .before .before in
+    let a = start .args in
+    let some = e .1 .1 .0 (start .pre .0) (first-word (a .mask) (a .row .now) (a .from) (start .pre .1 .1 .1 .1)) in
+    (some, (e .0, (e .1 .0, e .1 .1 .1 ∙ rw (at-if1 .if1 .left))))
 
 pub read-words-spec : {M : Type 1} → statement M
 read-words-spec =
