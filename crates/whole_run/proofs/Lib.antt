@@ -1,3 +1,5 @@
 pub mod StepsAreTakes
 pub mod RowLaws
 pub mod TakeTurn
+pub mod WordsAhead
+pub mod Turns
