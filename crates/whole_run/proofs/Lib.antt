@@ -3,3 +3,4 @@ pub mod RowLaws
 pub mod TakeTurn
 pub mod WordsAhead
 pub mod Turns
+pub mod Reach
