@@ -5,5 +5,9 @@ pub mod BitLaws
 pub mod ReadLaws
 pub mod GatherLaws
 pub mod TakeTurn
+pub mod WordsAhead
+pub mod Turns
+pub mod Reach
 pub mod Flags
 pub mod VisitRoom
+pub mod AnswerTurn

@@ -153,7 +153,7 @@ pub(crate) fn run_answers(
     requires { ⌜ Grounds (now list) (now table) sizes (length (now incoming)) × ((FormedFrom (now row) (from * 8) × Alive (planBy (now list) sizes) first r)
         × ((allFormed (repliesIn (now row)) ≡ true) × ((answers * 8 ≤ length (now row)) × AnswersTo (now row) answers))) ⌝ }
     ensures { λ x. ⌜ Moves (planBy (now (list .entry)) sizes) (now (row .entry)) r (from * 8) (now (incoming .entry))
-        (stopRecord r (now (row .entry)) from x) (x .stay .taken * 8) (now (incoming .exit)) × (from ≤ x .stay .taken) ⌝ }
+        (stopRecord r (now (row .entry)) from x) (x .stay .taken * 8) (now (incoming .exit)) × ((from ≤ x .stay .taken) × (x .stay .position < 4096)) ⌝ }
 {
     let mut spot = r.spot;
     let mut rules = rules_of(first);
