@@ -120,6 +120,21 @@ module _ (list table : List ℕ) (s : Sizes) (room : ℕ) (g : Grounds list tabl
             ∙ ap (λ (t : Taken). resumed (al .rest) t b′ outgoing) e);
       }
 
+      -- where the last word is through, the walk goes on behind it
+      pub through-goes : (m : Record) → taken ≡ Through m → (outgoing : List ℕ)
+          → rowFrom (planBy list s) row at (stateOf r b outgoing)
+          ≡ rowFrom (planBy list s) row (at + 8) (runOn (restFrom list (s .count) (spotAfter (m .spot))) (stateOf m b′ outgoing))
+      through-goes m e outgoing =
+          turn _ outgoing
+          (took (planBy list s) (grounds-sound list table s room g) c r al reply b b′ eb taken et outgoing ∙ sym (rest-behind outgoing)
+          ∙ ap (λ (t : Taken). resumed (restFrom list (s .count) (spotAfter (recordIn t .spot))) t b′ outgoing) e)
+
+      pub through-stage : (m : Record) → taken ≡ Through m
+          → Stage (planBy list s) (runOn (restFrom list (s .count) (spotAfter (m .spot))) (stateOf m b′ []) .run)
+      through-stage m e =
+          took-stage (planBy list s) (grounds-sound list table s room g) c r al reply b b′ eb taken et _
+          (sym (rest-behind []) ∙ ap (λ (t : Taken). resumed (restFrom list (s .count) (spotAfter (recordIn t .spot))) t b′ []) e)
+
       pub moves : (next : Record) (b″ : List ℕ)
           → ((outgoing : List ℕ)
           → stateOf next b″ outgoing ≡ resumed (restFrom list (s .count) (spotAfter (recordIn taken .spot))) taken b′ outgoing)

@@ -13,7 +13,7 @@ is-word-at-requires c κs = search needs
 last-word-requires : tie.Need-last-word-requires
 last-word-requires c κs = let start = c .before .before .before .before .before .before .before .before .before in (
       start .pre .1,
-      one-word _ _ _ _ (ahead-last _ _ _ (c .before .before .before .before .before .if1 .taken))
+      one-word _ _ _ _ (ahead-last (start .args .rules .q) (start .args .from .position) (start .args .from .left) (c .before .before .before .before .before .if1 .taken))
           (omega (arith, c .before .before .before .if2 .taken)) _
           (c .before .before .is-word-at .ensures) (c .before .if3 .taken),
     )
@@ -29,10 +29,12 @@ same-length : tie.Need-same-length
 same-length c = search needs
 
 returns : tie.Need-returns
-returns c = let m = c .before .before .before .before .before .before .before .before .before .before .before .before .before .pre .1 in
+returns c =
+    let start = c .before .before .before .before .before .before .before .before .before .before .before .before .before in
+    let m = start .pre .1 in
     let one = c .before .before .before .before .before .before .before .before .before .if1 .taken in
     words-turn _ _ _ _ _ _ _ _ none m refl 1
-    (one-word _ _ _ _ (ahead-last _ _ _ one) (omega (arith, c .before .before .before .before .before .before .before .if2 .taken)) _
+    (one-word _ _ _ _ (ahead-last (start .args .rules .q) (start .args .from .position) (start .args .from .left) one) (omega (arith, c .before .before .before .before .before .before .before .if2 .taken)) _
     (c .before .before .before .before .before .before .is-word-at .ensures) (c .before .before .before .before .before .if3 .taken))
     _ (c .after-words .ensures) _ (c .before .before .before .last-word .ensures) .0
 
