@@ -82,21 +82,21 @@ and-false true = refl
 and-false false = refl
 
 module _ (a : Answer) (n left : ℕ) where
-  word-stays : (q : QMode) → done q a ≡ true → 1 ≤ wordsAhead q n left → ¬ (left ≡ 1) → scanLeaves q a (positionAt n) left ≡ false
+  pub word-stays : (q : QMode) → done q a ≡ true → 1 ≤ wordsAhead q n left → ¬ (left ≡ 1) → scanLeaves q a (positionAt n) left ≡ false
   unfolding leaves
   word-stays Stop d h more = refl
   word-stays Ignore d h more = refl
   word-stays Repeat d h more = refl
   word-stays Scan d h more = rw (d, done-next n (next-place n left h more) .0)
 
-  last-stays : (q : QMode) → done q a ≡ true → left ≡ 1 → scanLeaves q a (positionAt n) left ≡ false
+  pub last-stays : (q : QMode) → done q a ≡ true → left ≡ 1 → scanLeaves q a (positionAt n) left ≡ false
   unfolding leaves
   last-stays Stop d h = refl
   last-stays Ignore d h = refl
   last-stays Repeat d h = refl
   last-stays Scan d h = rw (d, h) (and-false (ranOff (afterDone (positionAt n))))
 
-  wait-stays : (q : QMode) (limit tries : ℕ) → done q a ≡ false → canWait q limit tries n ≡ true → scanLeaves q a (positionAt n) left ≡ false
+  pub wait-stays : (q : QMode) (limit tries : ℕ) → done q a ≡ false → canWait q limit tries n ≡ true → scanLeaves q a (positionAt n) left ≡ false
   unfolding leaves
   wait-stays Stop limit tries d h = refl
   wait-stays Ignore limit tries d h = refl
@@ -104,13 +104,13 @@ module _ (a : Answer) (n left : ℕ) where
   wait-stays Scan limit tries d h = rw (d, other-next n (ltb-true n 0x170 h) .0)
 
 module _ (limit : ℕ) (a : Answer) (tries : ℕ) where
-  word-unspent : (q : QMode) → done q a ≡ true → spent limit q a tries ≡ false
+  pub word-unspent : (q : QMode) → done q a ≡ true → spent limit q a tries ≡ false
   word-unspent Stop d = refl
   word-unspent Ignore d = refl
   word-unspent Repeat d = rw d
   word-unspent Scan d = refl
 
-  wait-unspent : (q : QMode) (n : ℕ) → done q a ≡ false → canWait q limit tries n ≡ true → spent limit q a tries ≡ false
+  pub wait-unspent : (q : QMode) (n : ℕ) → done q a ≡ false → canWait q limit tries n ≡ true → spent limit q a tries ≡ false
   wait-unspent Stop n d h = refl
   wait-unspent Ignore n d h = refl
   wait-unspent Repeat n d h = rw (d, ne-eqb (tries + 1) limit (λ e. omega (arith, ltb-true (tries + 1) limit h)))
@@ -154,37 +154,37 @@ module _ (limit : ℕ) (c : Command) (r : Record) (f word : ℕ) (n : NoCause li
   code : codeOf limit c r (Answered (answerBy f word)) ≡ 0
   code = sym (code-0 limit c r (answerBy f word) _ refl (n .unspent) (n .parity) (n .stays) (n .x) (n .q))
 
-  word-run : done (qmodeOf (c .transfer)) (answerBy f word) ≡ true → ¬ (r .left ≡ 1)
+  pub word-run : done (qmodeOf (c .transfer)) (answerBy f word) ≡ true → ¬ (r .left ≡ 1)
       → Same (waiting (r .left - 1) (triesAfter (qmodeOf (c .transfer)) true (r .tries)) (positionAfter (qmodeOf (c .transfer)) true (r .position))
       (movedRecord c (counted limit c (Answered (answerBy f word)) r)))
       ≡ hereRun limit c (Answered (answerBy f word)) r
   unfolding hereRun onRun
   word-run d more = sym (rw (code, d, ne-eqb (r .left) 1 more))
 
-  last-run : done (qmodeOf (c .transfer)) (answerBy f word) ≡ true → r .left ≡ 1
+  pub last-run : done (qmodeOf (c .transfer)) (answerBy f word) ≡ true → r .left ≡ 1
       → Through (movedRecord c (counted limit c (Answered (answerBy f word)) r)) ≡ hereRun limit c (Answered (answerBy f word)) r
   unfolding hereRun onRun
   last-run d one = sym (rw (code, d, eq-eqb (r .left) 1 one))
 
-  wait-run : done (qmodeOf (c .transfer)) (answerBy f word) ≡ false
+  pub wait-run : done (qmodeOf (c .transfer)) (answerBy f word) ≡ false
       → Same (waiting (r .left) (triesAfter (qmodeOf (c .transfer)) false (r .tries)) (positionAfter (qmodeOf (c .transfer)) false (r .position))
       (counted limit c (Answered (answerBy f word)) r))
       ≡ hereRun limit c (Answered (answerBy f word)) r
   unfolding hereRun onRun
   wait-run d = sym (rw (code, d))
 
-  word-buffer : (b : List ℕ) → done (qmodeOf (c .transfer)) (answerBy f word) ≡ true
+  pub word-buffer : (b : List ℕ) → done (qmodeOf (c .transfer)) (answerBy f word) ≡ true
       → movedBytes c (longwordOf (Answered (answerBy f word))) (r .marks .incoming) b ≡ hereBuffer limit c (Answered (answerBy f word)) r b
   unfolding hereBuffer
   word-buffer b d = rw (code, d)
 
-  wait-buffer : (b : List ℕ) → done (qmodeOf (c .transfer)) (answerBy f word) ≡ false → b ≡ hereBuffer limit c (Answered (answerBy f word)) r b
+  pub wait-buffer : (b : List ℕ) → done (qmodeOf (c .transfer)) (answerBy f word) ≡ false → b ≡ hereBuffer limit c (Answered (answerBy f word)) r b
   unfolding hereBuffer
   wait-buffer b d = rw (code, d)
 
 -- One word in the closed form --------------------------------------------------------------------------------------------
 
-marks-one : (d : Direction) (wide : Bool) (m : Marks) → movedBy d wide m ≡ marksBehind d wide 1 m
+pub marks-one : (d : Direction) (wide : Bool) (m : Marks) → movedBy d wide m ≡ marksBehind d wide 1 m
 unfolding markAfterWords
 marks-one Incoming wide m = refl
 marks-one Outgoing wide m = refl
@@ -207,11 +207,11 @@ module _ (r₀ : Record) (row : List ℕ) (from : ℕ) (k : Spot) (limit : ℕ) 
 
   module _ (n : NoCause limit c here answer) where
     -- an operation more, and its flags gathered
-    operations : here .operations + 1 ≡ r₀ .operations + (s .taken + 1 - from)
+    pub operations : here .operations + 1 ≡ r₀ .operations + (s .taken + 1 - from)
     unfolding recordAt
     operations = omega arith
 
-    status : bitOr (here .status) (flagsOf limit c here (Answered answer)) ≡ bitOr (r₀ .status) (gatheredBits row from (s .taken + 1 - from))
+    pub status : bitOr (here .status) (flagsOf limit c here (Answered answer)) ≡ bitOr (r₀ .status) (gatheredBits row from (s .taken + 1 - from))
     unfolding recordAt gatheredBits
     status =
         let one : suc (s .taken - from) ≡ s .taken + 1 - from = omega arith in
@@ -227,12 +227,12 @@ module _ (r₀ : Record) (row : List ℕ) (from : ℕ) (k : Spot) (limit : ℕ) 
     note-same Outgoing = refl
     note-same Neither = refl
 
-    note : noteAfter (directionOf (c .transfer)) (c .wide) (counted limit c (Answered answer) here)
+    pub note : noteAfter (directionOf (c .transfer)) (c .wide) (counted limit c (Answered answer) here)
         ≡ noteBehind (directionOf (c .transfer)) (c .wide) (marksBehind (directionOf (c .transfer)) (c .wide) 1 (s .marks)) (s .note)
     unfolding recordAt
     note = note-same (directionOf (c .transfer)) ∙ note-one (directionOf (c .transfer)) (c .wide) here
 
-    next-word : 1 ≤ wordsAhead (qmodeOf (c .transfer)) (s .position) (s .left) → ¬ (s .left ≡ 1)
+    pub next-word : 1 ≤ wordsAhead (qmodeOf (c .transfer)) (s .position) (s .left) → ¬ (s .left ≡ 1)
         → waiting (here .left - 1) (triesAfter (qmodeOf (c .transfer)) true (here .tries)) (positionAfter (qmodeOf (c .transfer)) true (here .position))
         (movedRecord c (counted limit c (Answered answer) here))
         ≡ recordAt r₀ row from k (afterWords (rulesOf c) 1 s)
@@ -249,7 +249,7 @@ module _ (r₀ : Record) (row : List ℕ) (from : ℕ) (k : Spot) (limit : ℕ) 
       note = note i;
     }
 
-    next-wait : canWait (qmodeOf (c .transfer)) limit (s .tries) (s .position) ≡ true
+    pub next-wait : canWait (qmodeOf (c .transfer)) limit (s .tries) (s .position) ≡ true
         → waiting (here .left) (triesAfter (qmodeOf (c .transfer)) false (here .tries)) (positionAfter (qmodeOf (c .transfer)) false (here .position))
         (counted limit c (Answered answer) here)
         ≡ recordAt r₀ row from k (afterWait (rulesOf c) s)

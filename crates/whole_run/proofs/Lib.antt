@@ -11,3 +11,4 @@ pub mod Reach
 pub mod Flags
 pub mod VisitRoom
 pub mod AnswerTurn
+pub mod VisitTurn
