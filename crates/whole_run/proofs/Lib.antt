@@ -4,3 +4,4 @@ pub mod TakeTurn
 pub mod WordsAhead
 pub mod Turns
 pub mod Reach
+pub mod WholeRun
