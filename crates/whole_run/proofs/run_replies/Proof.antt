@@ -82,7 +82,7 @@ record-of-requires c κs =
     let p = at-loop .before .before .before .before .before .pre in let inv = at-loop .loop .inv in
     let al = decoded-as _ _ _ _ (p .0) _ (inv .0 .stage) (at-if1 .if1 .left) _ (at-instruction-at .instruction-at .ensures) _ (at-i .i .given .1) in
     let x = at-run-answers .run-answers .ensures in
-    (x .1 .0, (x .0 .formed .within, (ahead _ _ _ _ (p .0) _ _ al _ (inv .1) .operations, x .1 .1)))
+    (x .1 .0, (x .0 .formed .within, (ahead _ _ _ _ (p .0) _ _ al (at-loop .loop .incoming) (inv .1) .operations, x .1 .1)))
 
 same-length-3 : tie.Need-same-length-3 Inv-loop μ-loop
 same-length-3 c =
