@@ -1,35 +1,20 @@
 -- What six flags say, by trying all 64 of them: an answer whose flags pass the mask of its Q-mode is a word and no cause, and one that is no
 -- word but passes the mask of waits is no cause either.
-use Prim.Native.Nat.{ℕ, zero, suc, _%_, _<_}
-use mathlib.Core.Path.{_≡_, refl, sym, subst}
+use Prim.Native.Nat.{ℕ, _%_, _<_}
+use mathlib.Core.Path.{_≡_, refl}
 use mathlib.Core.Bool.{Bool, true, false, _&&_, not, false≢true}
-use native.Mathlib.Omega.{arith}
-use borrow.Author.Tests.{eqb-true, eqb-false, not-true}
+use borrow.Author.Tests.{not-true}
 use lib.Bits.{bitAnd}
 use lib.Dec.{eqb}
 use Rattle.base.specs.Checks.{if_then_else_}
 use Rattle.base.proofs.Bools.{and-left, and-right}
-use Rattle.base.proofs.Tests.{on}
 use Rattle.camac.specs.Modes.{done, noX, noQInStop}
 use Rattle.camac.specs.model.Answers.{wordFlags, waitFlags, canWait}
 use Rattle.camac.specs.declared.modes.QMode.{QMode}
 use Rattle.camac.specs.declared.modes.QMode.the-variants.{Stop, Ignore, Repeat, Scan}
 use Rattle.reply.specs.Causes.{parityError}
 use Rattle.whole_run.specs.model.Words.{answerBy}
-
--- Trying all numbers below one -------------------------------------------------------------------------------------------
-
-allBelow : ℕ → (ℕ → Bool) → Bool
-allBelow zero test = true
-allBelow (suc n) test = test n && allBelow n test
-
-tried : (n : ℕ) (test : ℕ → Bool) → allBelow n test ≡ true → (k : ℕ) → k < n → test k ≡ true
-unfolding allBelow
-tried zero test e k h = absurd (omega arith)
-tried (suc n) test e k h =
-    on (eqb k n)
-    (λ same. subst (λ (i : ℕ). test i ≡ true) (sym (eqb-true k n same)) (and-left (test n) (allBelow n test) e))
-    (λ other. tried n test (and-right (test n) (allBelow n test) e) k (let z : ¬ (k ≡ n) = eqb-false k n other in omega arith))
+use Rattle.whole_run.proofs.Tried.{allBelow, tried}
 
 under : (b x : Bool) → b ≡ true → (if b then x else true) ≡ true → x ≡ true
 under true x h e = e

@@ -1,35 +1,21 @@
 -- Flags gather: each status bit says that one of some flags is raised, so that the status bits of an OR are the OR of the status bits.
 use Prim.Native.Nat.{ℕ, zero, suc, _+_, _-_, _*_, _/_, _%_, _^_, _≤_, _<_}
-use mathlib.Core.Path.{_≡_, refl, sym, ap, ap₂, _∙_, subst}
-use mathlib.Core.Bool.{Bool, true, false, _&&_}
+use mathlib.Core.Path.{_≡_, refl, sym, ap, ap₂, _∙_}
 use mathlib.Core.List.{List}
 use native.Mathlib.Omega.{arith}
 use native.Mathlib.Nat.{add-zero, add-mul-mod-self-right}
-use borrow.Author.Tests.{ne-eqb, eqb-true, eqb-false}
+use borrow.Author.Tests.{ne-eqb, eqb-true}
 use lib.Bits.{bitAnd, bitOr, bitXor, or-shr, or-mod, or-block, xor-shr, xor-mod}
 use lib.Dec.{eqb}
 use lib.ListN.{getD}
 use lib.Pow.{pow-pos}
 use Rattle.base.specs.Bytes.{quadAt, Bytes}
 use Rattle.base.specs.Checks.{if_then_else_}
-use Rattle.base.proofs.Bools.{and-left, and-right}
-use Rattle.base.proofs.Tests.{on}
 use Rattle.whole_run.specs.model.Words.{flagsAt, flagBits, gatheredBits, raised, raisedOver, raisedBits}
+use Rattle.whole_run.proofs.Tried.{allBelow, tried}
 use Rattle.whole_run.proofs.BitLaws.{and-or, or-swap, or-none}
 
 -- One reply --------------------------------------------------------------------------------------------------------------
-
-allBelow : ℕ → (ℕ → Bool) → Bool
-allBelow zero test = true
-allBelow (suc n) test = test n && allBelow n test
-
-tried : (n : ℕ) (test : ℕ → Bool) → allBelow n test ≡ true → (k : ℕ) → k < n → test k ≡ true
-unfolding allBelow
-tried zero test e k h = absurd (omega arith)
-tried (suc n) test e k h =
-    on (eqb k n)
-    (λ same. subst (λ (i : ℕ). test i ≡ true) (sym (eqb-true k n same)) (and-left (test n) (allBelow n test) e))
-    (λ other. tried n test (and-right (test n) (allBelow n test) e) k (let z : ¬ (k ≡ n) = eqb-false k n other in omega arith))
 
 six-raised : (f : ℕ) → f < 64 → raisedBits (raised f) ≡ flagBits f
 unfolding raisedBits flagBits allBelow

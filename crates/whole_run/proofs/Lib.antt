@@ -1,6 +1,7 @@
 pub mod StepsAreTakes
 pub mod RowLaws
 pub mod WordLaws
+pub mod Tried
 pub mod BitLaws
 pub mod ReadLaws
 pub mod GatherLaws
@@ -12,3 +13,4 @@ pub mod Flags
 pub mod VisitRoom
 pub mod AnswerTurn
 pub mod VisitTurn
+pub mod WholeRun

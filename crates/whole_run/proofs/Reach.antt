@@ -1,18 +1,16 @@
 -- The run along jumps and literals with marks beside a spot: each visit is one of `runOn` for every record that has those marks, and the
 -- rest of the walk grows shorter.
 use Prim.Native.Nat.{ℕ, _≤_, _<_}
-use mathlib.Core.Path.{_≡_, refl, sym, ap, _∙_, subst}
-use mathlib.Core.Logic.{_⊎_}
+use mathlib.Core.Path.{_≡_, refl, ap, _∙_, subst}
 use mathlib.Core.Bool.{true, false}
 use mathlib.Core.List.{List}
 use lib.ListN.{length, getD}
-use Rattle.camac.specs.declared.words.Command.{Command}
 use Rattle.camac.specs.declared.words.Direction.the-variants.{Incoming}
 use Rattle.packing.specs.Packing.{markAfter, stored}
 use Rattle.packing.specs.declared.Marks.{Marks}
 use Rattle.listfile.specs.model.Table.{instructionAt, TableRight}
 use Rattle.listfile.specs.declared.field.Instruction.{Instruction}
-use Rattle.listfile.specs.declared.field.Instruction.the-variants.{Camac, Jump, Literal, Halt}
+use Rattle.listfile.specs.declared.field.Instruction.the-variants.{Jump, Literal}
 use Rattle.walk.specs.Walk.{spotAfter, jumpTo, movedBy}
 use Rattle.walk.specs.model.Sums.{restFrom}
 use Rattle.walk.specs.declared.visits.Spot.{Spot}

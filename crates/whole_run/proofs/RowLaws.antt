@@ -57,6 +57,10 @@ module _ (row : List ℕ) (at : ℕ) where
       (λ e. e ∙ formed-end (omega (arith, eqb-true at (length row) e)))
       (λ e. let other : ¬ (at ≡ length row) = eqb-false at (length row) e in e ∙ unformed-short (omega arith) g)
 
+  -- behind the last whole reply
+  pub formed-last : FormedFrom row at → length row < at + 8 → length row ≤ at
+  formed-last f g = omega (arith, eqb-true at (length row) (formed-whole (f .within) g ∙ f .formed))
+
   -- a formed row at a place before its end: a reply, eight bytes long, and the row behind it
   pub record FormedHere : Type 0 where
     pub reply : Reply

@@ -12,14 +12,14 @@ use Rattle.camac.specs.declared.words.Command.{Command}
 use Rattle.walk.specs.Walk.{onFrom}
 use Rattle.walk.specs.Admission.{Plan}
 use Rattle.reply.specs.Causes.{doneBy, codeOf}
-use Rattle.reply.specs.Effect.{State, endedAt, movedRecord, counted, waiting, takeReply, stateOf}
+use Rattle.reply.specs.Effect.{State, movedRecord, counted, waiting, takeReply, stateOf}
 use Rattle.calls.specs.Fit.{fits}
 use Rattle.calls.specs.Calls.{takeFrom, takeAt}
 use Rattle.reply.specs.model.Here.{onRun, hereRun, hereBuffer, resumed}
 use Rattle.reply.specs.declared.replies.Reply.{Reply}
 use Rattle.reply.specs.declared.records.Record.{Record}
 use Rattle.reply.specs.declared.take.Taken.{Taken}
-use Rattle.reply.specs.declared.take.Taken.the-variants.{Same, Ended}
+use Rattle.reply.specs.declared.take.Taken.the-variants.{Same}
 use Rattle.base.proofs.Tests.{on}
 use Rattle.reply.proofs.TakeHere.{take-here}
 use Rattle.worst_count.proofs.Live.{fits-live, live-waits}
@@ -52,24 +52,6 @@ module _ (limit : ℕ) (c : Command) (reply : Reply) (r r′ : Record) where
           (λ e. let x = rw e at h in let z : _≡_ {A = ℕ} 0 1 = cc in absurd (omega arith))
           (λ e. kept _ (rw e at h) refl refl)
       go false h = kept _ h refl refl
-
-  -- the run has ended
-  pub ended-over : hereRun limit c reply r ≡ Ended r′ → r′ .ended ≡ true
-  unfolding hereRun onRun endedAt
-  ended-over h =
-      on (eqb (codeOf limit c r reply) 0)
-      (λ e. go (doneBy (qmodeOf (c .transfer)) reply) (rw e at h))
-      (λ e. over _ (rw e at h) refl)
-    where
-      over : (w : Record) → Ended w ≡ Ended r′ → w .ended ≡ true → r′ .ended ≡ true
-      over w e a = let q : w ≡ r′ = cc in ap (λ (x : Record). x .ended) (sym q) ∙ a
-
-      go : (x : Bool) → onRun c x r (counted limit c reply r) ≡ Ended r′ → r′ .ended ≡ true
-      go true h =
-          on (eqb (r .left) 1)
-          (λ e. let x = rw e at h in let z : _≡_ {A = ℕ} 0 1 = cc in absurd (omega arith))
-          (λ e. let x = rw e at h in let z : _≡_ {A = ℕ} 0 1 = cc in absurd (omega arith))
-      go false h = let z : _≡_ {A = ℕ} 0 1 = cc in absurd (omega arith)
 
 -- A record that waits at a decoded instruction ---------------------------------------------------------------------------
 

@@ -1,9 +1,9 @@
 -- One reply taken at a record that waits: what it leaves stays at the instruction, or goes on along the walk behind it; and a record that
 -- waits has its instruction in the table.
-use Prim.Native.Nat.{ℕ, _+_, _<_}
+use Prim.Native.Nat.{ℕ, _+_, _≤_, _<_}
 use mathlib.Core.Path.{_≡_, refl, sym, ap, _∙_, subst}
-use mathlib.Core.Logic.{inr, ⊎-elim}
-use mathlib.Core.Bool.{false}
+use mathlib.Core.Logic.{_⊎_, inl, inr, ⊎-elim}
+use mathlib.Core.Bool.{true, false}
 use mathlib.Core.List.{List, [], _∷_}
 use mathlib.Core.Option.{some}
 use native.Mathlib.Omega.{arith}
@@ -29,9 +29,9 @@ use Rattle.reply.specs.declared.take.Taken.{Taken}
 use Rattle.reply.specs.declared.take.Taken.the-variants.{Same, Through, Ended}
 use Rattle.step.specs.model.Onward.{Going, recordIn, GoingBy}
 use Rattle.step.proofs.PlanLaws.{ready-here, going-next, on-next, command-at}
-use Rattle.whole_run.specs.model.Row.{rowFrom, FormedFrom, Grounds, Stage, Stays, Moves}
+use Rattle.whole_run.specs.model.Row.{rowFrom, stoppedAt, FormedFrom, Grounds, Stage, Stays, Moves}
 use Rattle.step.specs.model.Place.{Alive}
-use Rattle.whole_run.proofs.RowLaws.{formed-here, row-turn}
+use Rattle.whole_run.proofs.RowLaws.{formed-here, row-turn, row-over, row-used}
 use Rattle.whole_run.proofs.TakeTurn.{alive-waits, took, took-stage, took-same, stage-alive}
 use Rattle.whole_run.proofs.WordsAhead.{grounds-sound}
 use Rattle.walk.specs.declared.visits.Spot.{Spot}
@@ -64,6 +64,19 @@ module _ (p : Plan) (row : List ℕ) where
   pub moves-on : {r r₁ r₂ : Record} {from at₁ at₂ : ℕ} {b b₁ b₂ : List ℕ} → Moves p row r from b r₁ at₁ b₁
       → Moves p row r₁ at₁ b₁ r₂ at₂ b₂ → Moves p row r from b r₂ at₂ b₂
   moves-on x y = record { stage = y .stage; formed = y .formed; goes = λ outgoing. x .goes outgoing ∙ y .goes outgoing }
+
+  -- by other names
+  pub moves-as : {r r′ r″ : Record} {from at at′ : ℕ} {b b′ : List ℕ} → r″ ≡ r′ → at′ ≡ at → Moves p row r from b r′ at b′
+      → Moves p row r from b r″ at′ b′
+  moves-as {r} {from = from} {at′ = at′} {b = b} {b′ = b′} e f x =
+      subst (λ (y : Record). Moves p row r from b y at′ b′) (sym e) (rw f x)
+
+  -- at the end of the run or of the row
+  pub moves-last : {r r′ : Record} {from at : ℕ} {b b′ : List ℕ} → Moves p row r from b r′ at b′ → (r′ .ended ≡ true) ⊎ (length row ≤ at)
+      → (outgoing : List ℕ)
+      → rowFrom p row from (stateOf r b outgoing) ≡ stoppedAt at (stateOf r′ b′ outgoing)
+  moves-last x (inl e) outgoing = x .goes outgoing ∙ row-over row _ p _ e
+  moves-last x (inr h) outgoing = x .goes outgoing ∙ row-used row _ p _ h
 
 pub grounds-at : {list table : List ℕ} {s : Sizes} {m n : ℕ} → m ≡ n → Grounds list table s n → Grounds list table s m
 grounds-at {list} {table} {s} e g = subst (Grounds list table s) (sym e) g

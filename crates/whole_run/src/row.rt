@@ -63,13 +63,13 @@ fn read_replies(row: &[u8], from: usize, to: usize, answers: usize) -> RowRead
     ensures { λ x. ⌜ StretchReadAs (now (row .entry)) from to answers x ⌝ }
 {
     let mut first = answers;
-    let mut k = from;
-    while k < to {
-        if !reply::is_formed_at(row, k * 8) {
+    let mut j = from;
+    while j < to {
+        if !reply::is_formed_at(row, j * 8) {
             return RowRead::NotFormed;
         }
-        first = answers_with(row, k, first);
-        k += 1;
+        first = answers_with(row, j, first);
+        j += 1;
     }
     RowRead::Answers(first)
 }

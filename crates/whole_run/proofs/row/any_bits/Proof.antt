@@ -1,6 +1,6 @@
 -- `any_bits` has each bit that one of the replies has. The loop's invariant: bits that it lacks, each reply passed lacks, for a bit of an OR is a bit of
 -- one of its parts.
-use Prim.Native.Nat.{ℕ, _+_, _-_, _*_, _≤_}
+use Prim.Native.Nat.{ℕ, _-_, _*_, _≤_}
 use mathlib.Core.Path.{_≡_, sym, ap, _∙_}
 use native.Mathlib.Omega.{arith}
 use borrow.Author.Count.{below-more}

@@ -1,6 +1,6 @@
 -- `any_raised` has in its second byte the flags of the replies, Q and X negated. The loop's invariant: it has those of the replies passed.
-use Prim.Native.Nat.{ℕ, _+_, _-_, _*_, _/_, _%_, _≤_}
-use mathlib.Core.Path.{_≡_, sym, ap, _∙_}
+use Prim.Native.Nat.{ℕ, _-_, _/_, _%_, _≤_}
+use mathlib.Core.Path.{_≡_, ap, _∙_}
 use native.Mathlib.Omega.{arith}
 use lib.Bits.{bitOr, bitXor}
 use Rattle.whole_run.specs.model.Words.{raisedOver}

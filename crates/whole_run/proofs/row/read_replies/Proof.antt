@@ -1,5 +1,5 @@
 -- `read_replies` reads replies one by one. The loop's invariant: those passed are formed, and of them those before `first` are answers.
-use Prim.Native.Nat.{ℕ, _+_, _-_, _*_, _<_, _≤_}
+use Prim.Native.Nat.{ℕ, _-_, _*_, _<_, _≤_}
 use mathlib.Core.Path.{_≡_, sym, _∙_}
 use mathlib.Core.Bool.{true}
 use native.Mathlib.Omega.{arith}
@@ -13,10 +13,10 @@ use Rattle.whole_run.proofs.row.read_replies.Statement.{statement}
 use Rattle.whole_run.proofs.row.read_replies.Tie as tie
 
 abbrev Inv-loop : tie.InvT-loop
-Inv-loop row from to answers first₀ k₀ first k = (first ≤ answers) × FormedOver row from k × AnswersOver row from k first
+Inv-loop row from to answers first₀ j₀ first j = (first ≤ answers) × FormedOver row from j × AnswersOver row from j first
 
 abbrev μ-loop : tie.MeasureT-loop
-μ-loop row from to answers first₀ k₀ first k = to - k
+μ-loop row from to answers first₀ j₀ first j = to - j
 
 loop-holds : tie.Need-loop-holds Inv-loop μ-loop
 loop-holds c = (omega arith, λ j l f. absurd (omega arith), λ j l f b. absurd (omega arith))
@@ -31,13 +31,13 @@ returns : tie.Need-returns Inv-loop μ-loop
 returns c =
     let at-loop = c .before .before .before in
     let a = at-loop .before .before .args in
-    one-unformed (a .row .now) (at-loop .loop .k) (omega arith) (sym (c .before .is-formed-at .ensures) ∙ not-true _ (c .if1 .taken))
+    one-unformed (a .row .now) (at-loop .loop .j) (omega arith) (sym (c .before .is-formed-at .ensures) ∙ not-true _ (c .if1 .taken))
 
 answers-with-requires : tie.Need-answers-with-requires Inv-loop μ-loop
 answers-with-requires c κs = omega arith
 
-add-k : tie.Need-add-k Inv-loop μ-loop
-add-k c = omega arith
+add-j : tie.Need-add-j Inv-loop μ-loop
+add-j c = omega arith
 
 loop-less : tie.Need-loop-less Inv-loop μ-loop
 loop-less c = omega arith
@@ -47,13 +47,13 @@ loop-again c =
     let at-if1 = c .before in
     let at-loop = at-if1 .before .before .before in
     let a = at-loop .before .before .args in
-    let k = at-loop .loop .k in
+    let at = at-loop .loop .j in
     let i = at-loop .loop .inv in
     let e = c .answers-with .ensures in (
       omega (arith, e .0),
-      below-more (λ (j : ℕ). a .from ≤ j → isFormed (take 8 (drop (j * 8) (a .row .now))) ≡ true) k (i .1)
+      below-more (λ (j : ℕ). a .from ≤ j → isFormed (take 8 (drop (j * 8) (a .row .now))) ≡ true) at (i .1)
           (λ f. sym (at-if1 .before .is-formed-at .ensures) ∙ not-false _ (at-if1 .if1 .left)),
-      below-more (λ (j : ℕ). a .from ≤ j → j < c .answers-with .result → getD (a .row .now) (j * 8) 0 ≡ 0) k
+      below-more (λ (j : ℕ). a .from ≤ j → j < c .answers-with .result → getD (a .row .now) (j * 8) 0 ≡ 0) at
           (λ j l f b. i .2 j l f (omega (arith, e .0))) (λ f b. e .1 b),
     )
 
@@ -72,7 +72,7 @@ read-replies-spec =
     is-formed-at-requires
     returns
     answers-with-requires
-    add-k
+    add-j
     loop-less
     loop-again
     returns-2)

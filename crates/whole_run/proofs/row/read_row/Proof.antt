@@ -1,8 +1,8 @@
 -- `read_row` reads a row stretch by stretch. The loop's invariant: the replies passed are formed, and of them those before `answers` are answers. A row
 -- that is no multiple of 8 bytes is not formed.
-use Prim.Native.Nat.{ℕ, _+_, _-_, _*_, _/_, _<_, _≤_}
+use Prim.Native.Nat.{_-_, _/_, _≤_}
 use borrow.Author.Needs.{needs}
-use mathlib.Core.Path.{_≡_, subst}
+use mathlib.Core.Path.{subst}
 use native.Mathlib.Omega.{arith}
 use lib.ListN.{length}
 use Rattle.whole_run.specs.model.Words.{FormedOver, AnswersOver, StretchReadAs}

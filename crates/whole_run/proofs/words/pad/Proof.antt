@@ -1,6 +1,5 @@
 -- `pad` writes the pad of a 24-bit word: its test is that of `padAt`, and two zero bytes are one `sets`.
 use borrow.Author.Needs.{needs}
-use mathlib.Core.Path.{refl}
 use native.Mathlib.Omega.{arith}
 use native.Mathlib.Numerals.{add-one}
 use lib.ListN.{length-set}

@@ -1,7 +1,7 @@
 -- `pass_words` counts words. The loop's invariant: the first k answers are words. Where it stops early, the next is none, so that a first word is
 -- counted.
-use Prim.Native.Nat.{_+_, _-_, _*_, _≤_}
-use mathlib.Core.Path.{_≡_, sym, _∙_}
+use Prim.Native.Nat.{_-_, _≤_}
+use mathlib.Core.Path.{sym, _∙_}
 use native.Mathlib.Omega.{arith}
 use borrow.Author.Tests.{not-true, not-false}
 use Rattle.whole_run.specs.model.Words.{WordsAt}

@@ -1,7 +1,6 @@
 -- `put_narrow` stores the two low bytes of the answer's longword: they are bytes 4 and 5 of the answer.
 use Prim.Native.Nat.{_+_}
 use borrow.Author.Needs.{needs}
-use mathlib.Core.Path.{sym}
 use native.Mathlib.Omega.{arith}
 use native.Mathlib.Numerals.{add-one}
 use lib.ListN.{length-set}

@@ -1,9 +1,8 @@
 -- `put_wide` stores the four bytes of the answer's longword: three are bytes 4 to 6 of the answer, and the top is zero, as its byte 7 is.
 use Prim.Native.Nat.{_+_, suc}
 use borrow.Author.Needs.{needs}
-use mathlib.Core.Path.{_≡_, sym}
+use mathlib.Core.Path.{_≡_}
 use native.Mathlib.Omega.{arith}
-use native.Mathlib.Numerals.{add-one}
 use lib.ListN.{length-set}
 use Rattle.whole_run.proofs.WordLaws.{longword-bytes}
 use Rattle.whole_run.proofs.words.put_wide.Statement.{statement}

@@ -1,5 +1,5 @@
 -- `read_narrow` counts words and stores them. The loop's invariant: the first k answers are words, and they lie in the buffer.
-use Prim.Native.Nat.{_+_, _-_, _*_, _≤_}
+use Prim.Native.Nat.{_-_, _≤_}
 use mathlib.Core.Path.{_≡_, refl, sym, _∙_}
 use mathlib.Core.Bool.{false}
 use native.Mathlib.Omega.{arith}

@@ -1,6 +1,6 @@
 -- `read_wide` counts words and stores them. The loop's invariant: the first k answers are words, and they lie in the buffer; no word has a pad, since
 -- the first has none. Byte 7 of each answer is zero, as the row is formed.
-use Prim.Native.Nat.{_+_, _-_, _*_, _≤_}
+use Prim.Native.Nat.{_+_, _-_, _≤_}
 use mathlib.Core.Path.{_≡_, refl, sym, _∙_}
 use mathlib.Core.Bool.{true}
 use native.Mathlib.Omega.{arith}

@@ -1,8 +1,6 @@
 -- `read_word` pads, then puts the answer's longword behind the pad; a 16-bit word has none.
-use Prim.Native.Nat.{_+_, _*_, _≤_}
 use borrow.Author.Needs.{needs}
-use mathlib.Core.Path.{_≡_, sym, _∙_}
-use mathlib.Core.Bool.{true, false}
+use mathlib.Core.Path.{sym, _∙_}
 use native.Mathlib.Omega.{arith}
 use Rattle.whole_run.proofs.WordLaws.{reply-top, narrow-room, wide-room, stored-narrow, stored-wide}
 use Rattle.whole_run.proofs.words.read_word.Statement.{statement}

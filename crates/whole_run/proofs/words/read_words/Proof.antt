@@ -1,12 +1,7 @@
 -- `read_words` pads, then reads: behind the pad the words lie where they lie with it, and at least one is read, since the first is a word.
-use Prim.Native.Nat.{_+_, _*_, _≤_}
 use borrow.Author.Needs.{needs}
-use mathlib.Core.Path.{_≡_, sym, ap, _∙_}
-use mathlib.Core.Bool.{true, false}
+use mathlib.Core.Path.{_∙_}
 use native.Mathlib.Omega.{arith}
-use lib.ListN.{length}
-use Rattle.packing.specs.Packing.{alignedMark, markAfterWords}
-use Rattle.whole_run.specs.model.Words.{wordsStored}
 use Rattle.whole_run.proofs.WordLaws.{first-word, aligned-right, aligned-words, narrow-mark, padded-words}
 use Rattle.whole_run.proofs.words.read_words.Statement.{statement}
 use Rattle.whole_run.proofs.words.read_words.Tie as tie
