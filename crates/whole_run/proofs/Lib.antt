@@ -13,4 +13,5 @@ pub mod Flags
 pub mod VisitRoom
 pub mod AnswerTurn
 pub mod VisitTurn
+pub mod RunTurn
 pub mod WholeRun

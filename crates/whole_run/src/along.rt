@@ -48,7 +48,14 @@ fn after_literal(m: Marks) -> Marks
 }
 
 // On along the walk from a spot over jumps and literals. The walk from there halts, and its bytes have room.
-fn reach(list: &[u8], table: &[u16], count: usize, from: Spot, first: Marks, incoming: &mut [u8]) -> Reached
+fn reach(
+    list: &[u8],
+    table: &[u16],
+    count: usize,
+    from: Spot,
+    first: Marks,
+    incoming: &mut [u8],
+) -> Reached
     requires { ⌜ Tabled (now list) (now table) count × Ahead (now list) count from first (now incoming) ⌝ }
     ensures { λ x. ⌜ Reaches (now (list .entry)) (now (table .entry)) count from first (now (incoming .entry)) x (now (incoming .exit)) ⌝ }
 {
@@ -168,7 +175,14 @@ pub(crate) fn run_answers(
             };
         }
         let marks = here.marks;
-        let next = reach(list, table, sizes.count, walk::spot_after(spot), marks, incoming);
+        let next = reach(
+            list,
+            table,
+            sizes.count,
+            walk::spot_after(spot),
+            marks,
+            incoming,
+        );
         let i = next.instruction;
         let reached = next.spot;
         let behind = next.marks;

@@ -123,7 +123,14 @@ fn after_words(rules: Rules, here: Stay, words: usize) -> Stay
 }
 
 // The words from here on, whose first is known to be one: their number, up to `most`, each stored where it is read.
-fn words_from(rules: Rules, here: Stay, most: usize, incoming: &mut [u8], row: &[u8], answers: usize) -> usize
+fn words_from(
+    rules: Rules,
+    here: Stay,
+    most: usize,
+    incoming: &mut [u8],
+    row: &[u8],
+    answers: usize,
+) -> usize
     requires { ⌜ Roomy rules (now row) answers here (now incoming) × Words rules (now row) answers here 1
         × ((1 ≤ most) × ((most ≤ wordsAhead (rules .q) (here .position) (here .left)) × (here .taken + most ≤ answers))) ⌝ }
     ensures { λ k. ⌜ Words rules (now (row .entry)) answers here k
@@ -199,7 +206,14 @@ fn least(a: usize, b: usize) -> usize
 }
 
 // On over words and waits, until no word is left, the answers end or one of them is a cause.
-fn visit_on(rules: Rules, limit: usize, from: Stay, incoming: &mut [u8], row: &[u8], answers: usize) -> Stay
+fn visit_on(
+    rules: Rules,
+    limit: usize,
+    from: Stay,
+    incoming: &mut [u8],
+    row: &[u8],
+    answers: usize,
+) -> Stay
     requires { ⌜ (limit < 65536) × Roomy rules (now row) answers from (now incoming) ⌝ }
     ensures { λ s. ⌜ Passed rules limit (now (row .entry)) answers from (now (incoming .entry)) s (now (incoming .exit)) ⌝ }
 {
@@ -228,7 +242,14 @@ fn visit_on(rules: Rules, limit: usize, from: Stay, incoming: &mut [u8], row: &[
 }
 
 // The answers of an instruction from here on. A last word is taken without a loop.
-pub(crate) fn visit(rules: Rules, limit: usize, from: Stay, incoming: &mut [u8], row: &[u8], answers: usize) -> Stay
+pub(crate) fn visit(
+    rules: Rules,
+    limit: usize,
+    from: Stay,
+    incoming: &mut [u8],
+    row: &[u8],
+    answers: usize,
+) -> Stay
     requires { ⌜ (limit < 65536) × Roomy rules (now row) answers from (now incoming) ⌝ }
     ensures { λ s. ⌜ Passed rules limit (now (row .entry)) answers from (now (incoming .entry)) s (now (incoming .exit)) ⌝ }
 {

@@ -17,12 +17,12 @@ can-wait-requires c κs = search needs
 
 returns-2 : tie.Need-returns-2
 returns-2 c = λ e. let p = c .before .before .before .before .pre in record {
-      some = p .0;
-      answered = p .1 .0;
-      no-word = p .1 .1 .1 .1;
-      judged = sym (c .before .before .is-word-at .ensures) ∙ not-false _ (c .before .if1 .left);
-      tried = sym (c .can-wait .ensures) ∙ e;
-    }
+  some = p .0;
+  answered = p .1 .0;
+  no-word = p .1 .1 .1 .1;
+  judged = sym (c .before .before .is-word-at .ensures) ∙ not-false _ (c .before .if1 .left);
+  tried = sym (c .can-wait .ensures) ∙ e;
+}
 
 pub is-wait-spec : {M : Type 1} → statement M
 is-wait-spec = tie.close (tie.spec is-word-at-requires returns can-wait-requires returns-2)

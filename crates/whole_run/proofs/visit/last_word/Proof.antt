@@ -11,9 +11,9 @@ enum-told c = search needs
 
 read-word-requires : tie.Need-read-word-requires
 read-word-requires c κs = let p = c .before .before .before .before .before .before .pre in (
-      read-one _ _ _ _ _ (p .0) (words-left _ _ _ _ _ (p .0) 1 (p .1)) (c .before .enum-told .given .1),
-      (omega (arith, p .1 .answered, p .0 .within), p .0 .row-formed),
-    )
+  read-one _ _ _ _ _ (p .0) (words-left _ _ _ _ _ (p .0) 1 (p .1)) (c .before .enum-told .given .1),
+  (omega (arith, p .1 .answered, p .0 .within), p .0 .row-formed),
+)
 
 enum-told-2 : tie.Need-enum-told-2
 enum-told-2 c = search needs

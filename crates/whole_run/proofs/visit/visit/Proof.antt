@@ -12,11 +12,11 @@ is-word-at-requires c κs = search needs
 
 last-word-requires : tie.Need-last-word-requires
 last-word-requires c κs = let start = c .before .before .before .before .before .before .before .before .before in (
-      start .pre .1,
-      one-word _ _ _ _ (ahead-last (start .args .rules .q) (start .args .from .position) (start .args .from .left) (c .before .before .before .before .before .if1 .taken))
-          (omega (arith, c .before .before .before .if2 .taken)) _
-          (c .before .before .is-word-at .ensures) (c .before .if3 .taken),
-    )
+  start .pre .1,
+  one-word _ _ _ _ (ahead-last (start .args .rules .q) (start .args .from .position) (start .args .from .left) (c .before .before .before .before .before .if1 .taken))
+      (omega (arith, c .before .before .before .if2 .taken)) _
+      (c .before .before .is-word-at .ensures) (c .before .if3 .taken),
+)
 
 after-words-requires : tie.Need-after-words-requires
 after-words-requires c κs = let m = c .before .before .before .before .before .before .before .before .before .before .before .before .pre .1 in
