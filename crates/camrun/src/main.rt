@@ -2,10 +2,13 @@
 // read up to 65,536 bytes; a missing one is empty. The incoming buffer is 65,536 zero bytes.
 use base::Refusal;
 use calls::Operation;
+use calls::Yield;
 use reply::Record;
 use walk::Admission;
 use walk::Counts;
 ghost use Rattle.io.specs.Counts.{Counts as CountsBytes};
+ghost use Rattle.calls.specs.Calls.{stepOf, Yields};
+ghost use Rattle.reply.specs.Effect.{stateOf};
 
 fn main() {
     let mut list = io::large_buffer();
@@ -69,13 +72,27 @@ fn run_replies(list: &[u8], replies: &[u8], outgoing: &[u8]) {
         }
         print_operation(here.operations, wanted);
         let end = at + 8;
-        let next = step::step(list, here, incoming, outgoing, &replies[at..end]);
+        let next = take_reply(list, here, incoming, outgoing, &replies[at..end]);
         here = next.run;
         wanted = next.wanted;
         at = end;
         left -= 1;
     }
     print_end(here);
+}
+
+// One reply, taken by a step whose record is lent.
+fn take_reply(list: &[u8], r: Record, incoming: &mut [u8], outgoing: &[u8], reply: &[u8]) -> Yield
+    ensures { λ y. ⌜ Yields (stepOf (now (list .entry)) (stateOf r (now (incoming .entry)) (now (outgoing .entry))) (now (reply .entry)))
+        y (now (incoming .exit)) (now (outgoing .exit)) ⌝ }
+{
+    let mut here = r;
+    let answered = step::step_in_place(list, &mut here, incoming, outgoing, reply);
+    Yield {
+        refusal: answered.refusal,
+        run: here,
+        wanted: answered.wanted,
+    }
 }
 
 fn print(text: &[u8]) {
