@@ -2,10 +2,19 @@
 // read up to 65,536 bytes; a missing one is empty. The incoming buffer is 65,536 zero bytes.
 use base::Refusal;
 use calls::Operation;
+use calls::Yield;
 use reply::Record;
 use walk::Admission;
 use walk::Counts;
 ghost use Rattle.io.specs.Counts.{Counts as CountsBytes};
+ghost use Rattle.calls.specs.Calls.{stepOf, Yields};
+ghost use Rattle.reply.specs.Effect.{stateOf};
+
+// The bytes of the incoming buffer.
+const INCOMING: usize = 65536;
+
+// The refusal of replies that are not formed.
+const NOT_FORMED: u8 = 22;
 
 fn main() {
     let mut list = io::large_buffer();
@@ -35,7 +44,7 @@ fn read_file(name: &[u8], bytes: &mut [u8]) -> usize
 }
 
 fn run_list(list: &[u8], replies: &[u8], outgoing: &[u8]) {
-    let admission = walk::admit(list, 65536, outgoing.len());
+    let admission = walk::admit(list, INCOMING, outgoing.len());
     match admission {
         Admission::Refused(r) => {
             print_refused(r);
@@ -46,7 +55,7 @@ fn run_list(list: &[u8], replies: &[u8], outgoing: &[u8]) {
                 run_replies(list, replies, outgoing);
             } else {
                 print_refused(Refusal {
-                    number: 22,
+                    number: NOT_FORMED,
                     place: 0,
                 });
             }
@@ -69,13 +78,27 @@ fn run_replies(list: &[u8], replies: &[u8], outgoing: &[u8]) {
         }
         print_operation(here.operations, wanted);
         let end = at + 8;
-        let next = step::step(list, here, incoming, outgoing, &replies[at..end]);
+        let next = take_reply(list, here, incoming, outgoing, &replies[at..end]);
         here = next.run;
         wanted = next.wanted;
         at = end;
         left -= 1;
     }
     print_end(here);
+}
+
+// One reply, taken by a step whose record is lent.
+fn take_reply(list: &[u8], r: Record, incoming: &mut [u8], outgoing: &[u8], reply: &[u8]) -> Yield
+    ensures { λ y. ⌜ Yields (stepOf (now (list .entry)) (stateOf r (now (incoming .entry)) (now (outgoing .entry))) (now (reply .entry)))
+        y (now (incoming .exit)) (now (outgoing .exit)) ⌝ }
+{
+    let mut here = r;
+    let answered = step::step_in_place(list, &mut here, incoming, outgoing, reply);
+    Yield {
+        refusal: answered.refusal,
+        run: here,
+        wanted: answered.wanted,
+    }
 }
 
 fn print(text: &[u8]) {
@@ -114,7 +137,7 @@ fn print_operation(made: u64, o: Operation) {
 }
 
 fn next_number(n: u64) -> u64 {
-    if n < 18446744073709551615 { n + 1 } else { n }
+    if n < 0xFFFFFFFFFFFFFFFF { n + 1 } else { n }
 }
 
 fn print_end(r: Record) {
@@ -122,7 +145,7 @@ fn print_end(r: Record) {
     let status = r.status;
     if r.ended {
         print(b"end ");
-        print(&[digit(status / 268435456)]);
+        print(&[digit(status >> 28)]);
         print(b" ");
         print(&status_digits(status));
     } else {
@@ -136,18 +159,18 @@ fn print_end(r: Record) {
 // The lowest hexadecimal digit of a number, in upper case.
 fn digit(n: u32) -> u8 {
     let d = (n % 16) as u8;
-    if d < 10 { d + 48 } else { d + 55 }
+    if d < 10 { d + b'0' } else { d - 10 + b'A' }
 }
 
 fn status_digits(n: u32) -> [u8; 8] {
     [
-        digit(n / 268435456),
-        digit(n / 16777216),
-        digit(n / 1048576),
-        digit(n / 65536),
-        digit(n / 4096),
-        digit(n / 256),
-        digit(n / 16),
+        digit(n >> 28),
+        digit(n >> 24),
+        digit(n >> 20),
+        digit(n >> 16),
+        digit(n >> 12),
+        digit(n >> 8),
+        digit(n >> 4),
         digit(n),
     ]
 }

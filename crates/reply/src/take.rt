@@ -15,7 +15,7 @@ use listfile::Instruction;
 use packing::Marks;
 use walk::Spot;
 ghost use mathlib.Core.Path.{_≡_};
-ghost use Prim.Native.Nat.{_<_, _≤_};
+ghost use Prim.Native.Nat.{_^_, _<_, _≤_};
 ghost use lib.ListN.{length};
 ghost use Rattle.reply.specs.Causes.{codeOf};
 ghost use Rattle.reply.specs.Effect.{endedAt, longwordOf, movedBytes};
@@ -150,7 +150,7 @@ pub fn take_here(limit: usize, c: Command, reply: Reply, run: Record, incoming: 
 
 // One visit of the walk. A list has at most 4,096 instructions, and no mark passes B.
 pub fn advance_by(i: Instruction, at: Spot, r: Record, incoming: &mut [u8]) -> Advance
-    requires { ⌜ (at .instruction < 65536) × RoomFor i r (now incoming) ⌝ }
+    requires { ⌜ (at .instruction < 2 ^ 16) × RoomFor i r (now incoming) ⌝ }
     ensures { λ x. ⌜ (x ≡ advanceRun i at r) × (now (incoming .exit) ≡ advanceBuffer i r (now (incoming .entry))) ⌝ }
 {
     match i {

@@ -1,6 +1,6 @@
 -- What the preparation of an admitted list gives a run: a sound plan, the walk from its first instruction, room for B and O, and numbers
 -- small enough for the code's arithmetic at a record that fits.
-use Prim.Native.Nat.{ℕ, _≤_, _<_}
+use Prim.Native.Nat.{ℕ, _^_, _≤_, _<_}
 use mathlib.Core.Path.{_≡_, refl, sym, ap, _∙_, subst}
 use mathlib.Core.Logic.{_⊎_, inl, inr}
 use mathlib.Core.Bool.{true, false, true≢false}
@@ -49,14 +49,14 @@ module _ (list table : List ℕ) (s : Sizes) (counts : Counts) (i o : ℕ) (x : 
   on-start = on-walk list (s .count) firstSpot (x .planned .walk)
 
   -- B and O
-  marks-most : (lastMarks plan .incoming ≤ i) × (lastMarks plan .outgoing ≤ 1152921504606846976)
+  marks-most : (lastMarks plan .incoming ≤ i) × (lastMarks plan .outgoing ≤ 2 ^ 60)
   unfolding countsOf
   marks-most = (
     prepared-room list i o plan (x .prepared) .incoming-room,
     omega (arith, ap (λ (c : Counts). c .outgoing) (x .planned .sums), x .planned .below .outgoing),
   )
 
-  worst-most : countsOf plan .worst ≤ 1152921504606846976
+  worst-most : countsOf plan .worst ≤ 2 ^ 60
   worst-most = omega (arith, ap (λ (c : Counts). c .worst) (x .planned .sums), x .planned .below .worst)
 
   pub going-start : (r : Record) (b : List ℕ) → r ≡ zeroRecord false → length b ≡ i → Going list (s .count) firstSpot r b
@@ -104,7 +104,7 @@ module _ (list table : List ℕ) (s : Sizes) (counts : Counts) (i o : ℕ) (x : 
       numbers : FitNumbers plan r c
       numbers = fits-numbers plan sound r h w
 
-      outgoing-most : r .marks .outgoing ≤ 1152921504606846976
+      outgoing-most : r .marks .outgoing ≤ 2 ^ 60
       outgoing-most = omega (arith, moved-grows c (r .marks) .outgoing, numbers .next-marks .outgoing, marks-most .1)
 
       pub ready-here : (b : List ℕ) → length b ≡ i → Ready c r b

@@ -1,6 +1,6 @@
 -- The search for an instruction along the walk finds what `fits` looks at: the visit of that number, with the worst count and the marks of
 -- the visits before it. Sums go on visit by visit in both.
-use Prim.Native.Nat.{ℕ, _+_, _-_, _<_}
+use Prim.Native.Nat.{ℕ, _+_, _-_, _^_, _<_}
 use mathlib.Core.Path.{_≡_, refl, sym, ap, _∙_, subst}
 use mathlib.Core.Bool.{Bool, true, false}
 use mathlib.Core.List.{List, [], _∷_, _++_}
@@ -175,7 +175,7 @@ pub record Finding (list : List ℕ) (n limit : ℕ) (k : Spot) (counts : Counts
   pub total : countsBy (s .worst + worstOver limit (restFrom list n j)) (marksOver (restFrom list n j) (marksIn s)) ≡ counts
 
 pub finding-below : (list : List ℕ) (n limit : ℕ) (k : Spot) (counts : Counts) (j : Spot) (s : Counts) → Finding list n limit k counts j s
-    → Below 1152921504606846976 counts → Below 4611686018427387904 s
+    → Below (2 ^ 60) counts → Below (2 ^ 62) s
 finding-below list n limit k counts j s f b =
     let m = over-grows (restFrom list n j) (marksIn s) in
     record {
@@ -261,15 +261,17 @@ module _ (list table : List ℕ) (s : Sizes) (counts : Counts) (x : PlannedFor l
     pub found-bounded : Bounded (s .limit) c (marksIn sums) (counts .worst)
     unfolding countsOf
     found-bounded =
-        let m = found-marks (s .limit) (r .spot) (restFrom list (s .count) firstSpot) c sums after place in
-        record {
-          limited = omega (arith, x .planned .small);
-          words = found-sound (s .limit) (r .spot) (restFrom list (s .count) firstSpot) c sums after place
-              (plan-sound list plan (x .bytes) (x .plan) .well) .words-most;
-          incoming = omega (arith, m .incoming, ap (λ (y : Counts). y .incoming) (x .planned .sums), x .planned .below .incoming);
-          outgoing = omega (arith, m .outgoing, ap (λ (y : Counts). y .outgoing) (x .planned .sums), x .planned .below .outgoing);
-          after = x .planned .below .worst;
-        }
+        let m = found-marks (s .limit) (r .spot) (restFrom list (s .count) firstSpot) c sums after place in (
+          x .planned .small,
+          (
+            found-sound (s .limit) (r .spot) (restFrom list (s .count) firstSpot) c sums after place (plan-sound list plan (x .bytes) (x .plan) .well) .words-most,
+            record {
+              worst = x .planned .below .worst;
+              incoming = omega (arith, m .incoming, ap (λ (y : Counts). y .incoming) (x .planned .sums), x .planned .below .incoming);
+              outgoing = omega (arith, m .outgoing, ap (λ (y : Counts). y .outgoing) (x .planned .sums), x .planned .below .outgoing);
+            },
+          ),
+        )
 
     fit-is : fitsBy (s .limit) (counts .worst) (Here c sums after) r ≡ fits plan r
     fit-is = ap (λ (y : Found). fitsBy (s .limit) (counts .worst) y r) (sym eh) ∙ same-fits

@@ -1,6 +1,6 @@
 -- Fit as code tests it: bounds that an admitted list sets to the numbers that fit is judged by, and the tests in two parts. Nothing here
 -- is a rule of document 01: the law fit-parts joins the two parts to the definition that is.
-use Prim.Native.Nat.{ℕ, _+_, _^_, _≤_}
+use Prim.Native.Nat.{ℕ, _+_, _^_, _≤_, _<_}
 use mathlib.Core.Bool.{Bool, _&&_, not}
 use mathlib.Core.List.{[], _∷_}
 use lib.Dec.{leb, eqb}
@@ -10,17 +10,15 @@ use Rattle.camac.specs.Words.{qmodeOf, wordsOf, positionOf}
 use Rattle.camac.specs.Modes.{triesFit, positionFits, mostLeft}
 use Rattle.camac.specs.declared.words.Command.{Command}
 use Rattle.packing.specs.declared.Marks.{Marks}
+use Rattle.walk.specs.model.Sums.{Below}
 use Rattle.reply.specs.Status.{waitingBits}
 use Rattle.reply.specs.declared.records.Record.{Record}
 use Rattle.calls.specs.Fit.{marksFit, noteFits}
 
--- what an admitted list bounds: R, the words of an instruction, the marks before it and the sum over the walk after it
-pub record Bounded (limit : ℕ) (c : Command) (m : Marks) (rest : ℕ) : Type 0 where
-  pub limited : limit ≤ 65535
-  pub words : wordsOf (c .transfer) ≤ 65536
-  pub incoming : m .incoming ≤ 2 ^ 60
-  pub outgoing : m .outgoing ≤ 2 ^ 60
-  pub after : rest ≤ 2 ^ 60
+-- what an admitted list bounds: R, the words of an instruction, and the sums: the worst count after it with the marks before it
+abbrev pub Bounded : ℕ → Command → Marks → ℕ → Type 0
+Bounded limit c m rest =
+    (limit < 2 ^ 16) × ((wordsOf (c .transfer) ≤ 2 ^ 16) × Below (2 ^ 60) (record { worst = rest; incoming = m .incoming; outgoing = m .outgoing }))
 
 -- the tests of a record by itself, at an instruction
 unfoldable pub fitsCommand : ℕ → Command → Record → Bool

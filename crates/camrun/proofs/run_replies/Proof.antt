@@ -30,17 +30,17 @@ print-operation-requires c κs = search needs
 add-end : tie.Need-add-end Inv-loop μ-loop
 add-end c = search needs
 
-sub-step : tie.Need-sub-step Inv-loop μ-loop
-sub-step c = search needs
+sub-take-reply : tie.Need-sub-take-reply Inv-loop μ-loop
+sub-take-reply c = search needs
 
-part-step-start : tie.Need-part-step-start Inv-loop μ-loop
-part-step-start c = search needs
+part-take-reply-start : tie.Need-part-take-reply-start Inv-loop μ-loop
+part-take-reply-start c = search needs
 
-part-step-end : tie.Need-part-step-end Inv-loop μ-loop
-part-step-end c = search needs
+part-take-reply-end : tie.Need-part-take-reply-end Inv-loop μ-loop
+part-take-reply-end c = search needs
 
-step-requires : tie.Need-step-requires Inv-loop μ-loop
-step-requires c κs = search needs
+take-reply-requires : tie.Need-take-reply-requires Inv-loop μ-loop
+take-reply-requires c κs = search needs
 
 sub-left : tie.Need-sub-left Inv-loop μ-loop
 sub-left c = search needs
@@ -69,10 +69,10 @@ run-replies-spec =
     loop-holds
     print-operation-requires
     add-end
-    sub-step
-    part-step-start
-    part-step-end
-    step-requires
+    sub-take-reply
+    part-take-reply-start
+    part-take-reply-end
+    take-reply-requires
     sub-left
     loop-less
     loop-again

@@ -37,7 +37,7 @@ formedBy formed.NotFormed = none
 -- what a waiting record and its incoming buffer have that arithmetic needs
 pub record Ready (c : Command) (r : Record) (buffer : List ℕ) : Type 0 where
   pub some : 1 ≤ r .left
-  pub tried : r .tries < 65536
+  pub tried : r .tries < 2 ^ 16
   pub operations : r .operations < 2 ^ 63
   pub room : moved c (r .marks) .incoming ≤ length buffer
   pub outgoing : r .marks .outgoing < 2 ^ 63

@@ -1,5 +1,5 @@
 -- A run on its way along the walk, as code makes it over the table of places. Nothing here is a rule of document 01.
-use Prim.Native.Nat.{ℕ, _≤_, _<_}
+use Prim.Native.Nat.{ℕ, _^_, _≤_, _<_}
 use mathlib.Core.Path.{_≡_}
 use mathlib.Core.Bool.{false}
 use mathlib.Core.List.{List}
@@ -54,7 +54,7 @@ GoingBy list count (Ended r) incoming = Unit {0}
 
 -- a record that waits has its instruction in the table, and its outgoing mark fits
 abbrev pub Askable : List ℕ → Record → Type 0
-Askable table r = r .ended ≡ false → (r .spot .instruction < length table) × (r .marks .outgoing < 9223372036854775808)
+Askable table r = r .ended ≡ false → (r .spot .instruction < length table) × (r .marks .outgoing < 2 ^ 63)
 
 abbrev pub operationAt : Instruction → Record → List ℕ → Operation
 operationAt (Camac c) r outgoing = operationOf c r outgoing

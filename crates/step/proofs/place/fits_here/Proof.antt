@@ -10,13 +10,8 @@ less-requires c κs = search needs
 fits-at-requires : tie.Need-fits-at-requires
 fits-at-requires c κs =
     let bounded = c .before .before .before .pre in
-    record {
-      limited = bounded .limited;
-      words = bounded .words;
-      incoming = bounded .incoming;
-      outgoing = bounded .outgoing;
-      after = omega (arith, bounded .after, c .less .ensures);
-    }
+    let below = bounded .1 .1 in
+    (bounded .0, (bounded .1 .0, record { worst = omega (arith, below .worst, c .less .ensures); incoming = below .incoming; outgoing = below .outgoing }))
 
 returns : tie.Need-returns
 returns c = simp (c .fits-at .ensures, c .before .less .ensures)
