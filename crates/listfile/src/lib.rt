@@ -4,6 +4,7 @@ pub mod field;
 pub mod reader;
 
 pub use check::Checked;
+pub use check::Extent;
 pub use check::Jumps;
 pub use check::Pass;
 pub use check::Sizes;
