@@ -3,3 +3,4 @@ pub mod Modes
 pub mod Words
 pub mod Names
 pub mod Ends
+pub mod model

@@ -63,8 +63,9 @@ pub record Lies (list : List ℕ) (at count : ℕ) : Type 0 where
   pub inside : at + 3 + bodyLength list at ≤ length list
   pub few : count < 4096
   pub short : bodyLength list at ≤ 8
+  pub right : wrongLength (tagAt list at) (bodyLength list at) ≡ false
 
-read-head : (list : List ℕ) (at count : ℕ) (i : Instruction) → fieldOf list at count ≡ Read i
+pub read-head : (list : List ℕ) (at count : ℕ) (i : Instruction) → fieldOf list at count ≡ Read i
     → headFault list at count ≡ 0
 unfolding fieldOf
 read-head list at count i e = go (headFault list at count) e
@@ -81,6 +82,7 @@ field-lies list at count i e =
       inside = ltb-false (length list) (nextField list at) (c .1 .0);
       few = leb-false 4096 count (c .1 .1 .0);
       short = length-small (tagAt list at) (bodyLength list at) (c .1 .1 .1 .1 .0);
+      right = c .1 .1 .1 .1 .0;
     }
 
 body-again : (tag : Tag) (list : List ℕ) (at : ℕ) (i : Instruction) → bodyOf tag list at ≡ Read i

@@ -45,7 +45,7 @@ fn tag_of(byte: u8) -> Tag
     }
 }
 
-fn tag_at(list: &[u8], at: usize) -> Tag
+pub fn tag_at(list: &[u8], at: usize) -> Tag
     ensures { λ r. ⌜ r ≡ tagAt (now (list .entry)) at ⌝ }
 {
     tag_of(base::byte_at(list, at))
