@@ -1,23 +1,23 @@
 -- The parts of an instruction decoded, by the bits of its longwords. The transfer mode decides which words and buffer it has; F's 8-bit and
 -- 16-bit lie side by side in the first longword; refusal 8 leaves no inline instruction but a write.
 use Prim.Native.Nat.{ℕ, zero, suc, _+_, _*_, _/_, _%_, _≤_, _<_}
-use mathlib.Core.Path.{_≡_, refl, sym}
+use mathlib.Core.Path.{_≡_, refl}
 use mathlib.Core.Bool.{Bool, true, false, _&&_, _||_, not}
 use mathlib.Core.List.{[], _∷_}
 use native.Mathlib.Omega.{arith}
-use borrow.Author.Tests.{eq-eqb, ne-eqb, eqb-true, not-false}
+use borrow.Author.Tests.{ne-eqb, eqb-true, not-false}
 use lib.Dec.{eqb}
 use Rattle.base.specs.Checks.{if_then_else_, _gives_}
 use Rattle.base.proofs.Bools.{and-right, or-false-left, or-false-right}
 use Rattle.base.proofs.Checks.{passed}
-use Rattle.camac.specs.Words.{modeIn, qmodeIn, addressIn, wideIn, isControl, isWrite, blockWords, transferIn, commandIn, qmodeOf, addressOf, wordsOf, directionBy, directionOf, isScanIn, zeroBitSet, badAddress, badMode, badSecond, aboveP, camacFault}
+use Rattle.camac.specs.Words.{modeIn, qmodeIn, addressIn, wideIn, adIn, isControl, isWrite, blockWords, transferIn, commandIn, qmodeOf, addressOf, wordsOf, directionBy, directionOf, isScanIn, zeroBitSet, badAddress, badMode, badSecond, aboveP, camacFault}
 use Rattle.camac.specs.model.Bits.{isIncoming, isOutgoing, Passes}
 use Rattle.camac.specs.declared.modes.QMode.{QMode}
 use Rattle.camac.specs.declared.words.Address.{Address}
 use Rattle.camac.specs.declared.words.Direction.{Direction}
 use Rattle.camac.specs.declared.words.Direction.the-variants.{Incoming, Outgoing, Neither}
 
--- By the transfer mode -----------------------------------------------------------------------------------------------------
+-- Parts of the instruction -----------------------------------------------------------------------------------------------------
 
 pub command-qmode : (first second : ℕ) → qmodeOf (commandIn first second .transfer) ≡ qmodeIn first
 unfolding commandIn qmodeOf transferIn
@@ -38,6 +38,14 @@ command-address first second = go (modeIn first) (qmodeIn first) (addressIn firs
     go (suc zero) q a wide = refl
     go (suc (suc zero)) q a wide = refl
     go (suc (suc (suc k))) q a wide = refl
+
+pub command-wide : (first second : ℕ) → commandIn first second .wide ≡ wideIn first
+unfolding commandIn
+command-wide first second = refl
+
+pub command-ad : (first second : ℕ) → commandIn first second .ad ≡ adIn first
+unfolding commandIn
+command-ad first second = refl
 
 pub command-words : (first second : ℕ)
     → wordsOf (commandIn first second .transfer) ≡ (if eqb (modeIn first) 1 then blockWords (wideIn first) second else 1)
@@ -105,17 +113,17 @@ passes-mode : (len first second : ℕ) → camacFault len first second ≡ 0 →
 unfolding camacFault
 passes-mode len first second e =
     passed (
-      zeroBitSet first gives 6
-      ∷ badAddress first gives 7
-      ∷ badMode len first gives 8
-      ∷ (badSecond first second || (isScanIn first && aboveP (commandIn first second .transfer))) gives 9
-      ∷ []
+    zeroBitSet first gives 6
+    ∷ badAddress first gives 7
+    ∷ badMode len first gives 8
+    ∷ (badSecond first second || (isScanIn first && aboveP (commandIn first second .transfer))) gives 9
+    ∷ []
     ) (omega arith) e .1 .1 .0
 
 pub passes-block : (len first second : ℕ) → camacFault len first second ≡ 0 → modeIn first ≡ 1 → len ≡ 8
 passes-block len first second e m =
     let length : eqb len (if eqb (modeIn first) 0 then 4 else 8) ≡ true
-            = not-false _ (or-false-left _ _ (or-false-right (eqb (modeIn first) 2) _ (passes-mode len first second e))) in
+    = not-false _ (or-false-left _ _ (or-false-right (eqb (modeIn first) 2) _ (passes-mode len first second e))) in
     eqb-true len 8 (rw m at length)
 
 passes-inline : (len first second : ℕ) → camacFault len first second ≡ 0 → eqb (modeIn first) 3 ≡ true → isWrite (addressIn first .function) ≡ true
@@ -123,7 +131,7 @@ passes-inline len first second e m =
     let length : Bool = not (eqb len (if eqb (modeIn first) 0 then 4 else 8)) in
     let control : Bool = eqb (modeIn first) 1 && isControl (addressIn first .function) in
     let inline : eqb (modeIn first) 3 && not (isWrite (addressIn first .function)) ≡ false
-            = or-false-right control _ (or-false-right length _ (or-false-right (eqb (modeIn first) 2) _ (passes-mode len first second e))) in
+    = or-false-right control _ (or-false-right length _ (or-false-right (eqb (modeIn first) 2) _ (passes-mode len first second e))) in
     not-false _ (rw m at inline)
 
 -- The direction --------------------------------------------------------------------------------------------------------------

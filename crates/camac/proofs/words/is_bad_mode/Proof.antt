@@ -27,7 +27,7 @@ is-control-requires : tie.Need-is-control-requires
 is-control-requires c κs = search needs
 
 returns-3 : tie.Need-returns-3
-returns-3 c = 
+returns-3 c =
     simp (
       ← c .before .before .before .before .mode-in .ensures,
       c .before .if3 .taken,
@@ -41,7 +41,7 @@ is-write-requires : tie.Need-is-write-requires
 is-write-requires c κs = search needs
 
 returns-4 : tie.Need-returns-4
-returns-4 c = 
+returns-4 c =
     simp (
       ← c .before .before .before .before .before .mode-in .ensures,
       c .before .if4 .taken,

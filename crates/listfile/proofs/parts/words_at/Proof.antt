@@ -35,7 +35,7 @@ words-in-requires : tie.Need-words-in-requires
 words-in-requires c κs = search needs
 
 returns : tie.Need-returns
-returns c = 
+returns c =
     let at-if1 = c .before .before in
     c .words-in .ensures
     ∙ ap (λ (second : ℕ). wordsOf (commandIn (start at-if1 .args .first) second .transfer))
