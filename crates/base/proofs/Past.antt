@@ -27,7 +27,13 @@ pub long-three : (l : List ℕ) (i : ℕ) → length l ≤ i + 3 → longAt l i 
 unfolding longAt shortAt
 long-three l i h = omega (arith, byte-past l (i + 2 + 1) (omega arith))
 
+-- where at most one is
+pub short-one : (l : List ℕ) (i : ℕ) → length l ≤ i + 1 → shortAt l i ≡ byteAt l i
+unfolding shortAt
+short-one l i h = omega (arith, byte-past l (i + 1) h)
+
+-- all four in one sum
 pub long-whole : (l : List ℕ) (i : ℕ)
-    → longAt l i ≡ getD l i 0 + getD l (i + 1) 0 * 256 + (getD l (i + 2) 0 + getD l (i + 3) 0 * 256) * 65536
-unfolding longAt shortAt byteAt
-long-whole l i = let last : i + 2 + 1 ≡ i + 3 = omega arith in rw last
+    → longAt l i ≡ byteAt l i + byteAt l (i + 1) * 256 + byteAt l (i + 2) * 65536 + byteAt l (i + 3) * 16777216
+unfolding longAt shortAt
+long-whole l i = let last : i + 2 + 1 ≡ i + 3 = omega arith in rw last (omega arith)

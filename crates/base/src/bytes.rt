@@ -15,6 +15,14 @@ pub fn byte_at(bytes: &[u8], i: usize) -> u8
     if i < bytes.len() { bytes[i] } else { 0 }
 }
 
+// Two bytes, both there: one sum, as in every number here, so that the back end makes one load of it.
+pub fn pair_at(bytes: &[u8], i: usize) -> usize
+    requires { ⌜ i + 2 ≤ length (now bytes) ⌝ }
+    ensures { λ r. ⌜ (r ≡ shortAt (now (bytes .entry)) i) × (r < 65536) ⌝ }
+{
+    usize_of(bytes[i]) + usize_of(bytes[i + 1]) * 256
+}
+
 // Two bytes.
 pub fn short_at(bytes: &[u8], i: usize) -> usize
     ensures { λ r. ⌜ (r ≡ shortAt (now (bytes .entry)) i) × (r < 65536) ⌝ }
@@ -22,18 +30,21 @@ pub fn short_at(bytes: &[u8], i: usize) -> usize
     if bytes.len() <= i {
         return 0;
     }
-    usize_of(bytes[i]) + usize_of(byte_at(bytes, i + 1)) * 256
+    if bytes.len() - i < 2 {
+        return usize_of(bytes[i]);
+    }
+    pair_at(bytes, i)
 }
 
 // Four bytes, all of them there.
-fn whole_at(bytes: &[u8], i: usize) -> u32
+pub fn whole_at(bytes: &[u8], i: usize) -> u32
     requires { ⌜ i + 4 ≤ length (now bytes) ⌝ }
-    ensures { λ r. ⌜ r ≡ getD (now (bytes .entry)) i 0 + getD (now (bytes .entry)) (i + 1) 0 * 256
-        + (getD (now (bytes .entry)) (i + 2) 0 + getD (now (bytes .entry)) (i + 3) 0 * 256) * 65536 ⌝ }
+    ensures { λ r. ⌜ r ≡ longAt (now (bytes .entry)) i ⌝ }
 {
     u32_of(bytes[i])
         + u32_of(bytes[i + 1]) * 256
-        + (u32_of(bytes[i + 2]) + u32_of(bytes[i + 3]) * 256) * 65536
+        + u32_of(bytes[i + 2]) * 65536
+        + u32_of(bytes[i + 3]) * 16777216
 }
 
 // Four bytes. A place in a list is below 2^63, and a longword lies at most seven bytes on.
@@ -55,7 +66,7 @@ pub fn long_at(bytes: &[u8], i: usize) -> u32
     low + u32_of(bytes[i + 2]) * 65536
 }
 
-// Eight bytes, all of them there: one sum, so that the back end makes one load of it.
+// Eight bytes, all of them there.
 pub fn quad_at(bytes: &[u8], i: usize) -> u64
     requires { ⌜ i + 8 ≤ length (now bytes) ⌝ }
     ensures { λ r. ⌜ r ≡ quadAt (now (bytes .entry)) i ⌝ }

@@ -4,11 +4,13 @@ pub mod numbers;
 
 pub use bytes::byte_at;
 pub use bytes::long_at;
+pub use bytes::pair_at;
 pub use bytes::put_long;
 pub use bytes::put_quad;
 pub use bytes::put_short;
 pub use bytes::quad_at;
 pub use bytes::short_at;
+pub use bytes::whole_at;
 pub use numbers::least;
 pub use numbers::less;
 pub use numbers::u32_of;

@@ -1,9 +1,19 @@
-// CAMAC words: the decode of an instruction's longwords, what each Q-mode does, scan positions, the names of the error codes.
+// CAMAC words: the decode of an instruction's longwords, what a few of their bits say, what each Q-mode does, scan positions, the names of the error codes.
+pub mod bits;
 pub mod modes;
 pub mod names;
 pub mod scan;
 pub mod words;
 
+pub use bits::has_ad;
+pub use bits::is_block;
+pub use bits::is_wide;
+pub use bits::mode_in;
+pub use bits::place_in;
+pub use bits::reads;
+pub use bits::start_in;
+pub use bits::words_in;
+pub use bits::writes;
 pub use modes::Answer;
 pub use modes::QMode;
 pub use modes::can_wait;
@@ -38,5 +48,6 @@ pub use words::command_in;
 pub use words::decode;
 pub use words::direction_of;
 pub use words::position_of;
+pub use words::qmode_in;
 pub use words::qmode_of;
 pub use words::words_of;

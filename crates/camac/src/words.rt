@@ -1,9 +1,12 @@
 // CAMAC words: the decode of an instruction's longwords, refusals 6 to 9.
+use crate::bits::has_ad;
+use crate::bits::is_wide;
+use crate::bits::mode_in;
 use crate::modes::QMode;
 use crate::modes::is_scan;
 use crate::scan::ScanPosition;
 ghost use mathlib.Core.Path.{_≡_};
-ghost use Rattle.camac.specs.Words.{modeIn, qmodeIn, addressIn, wideIn, isControl, isWrite, halfwords, blockWords, transferIn, commandIn, qmodeOf, addressOf, wordsOf, directionBy, directionOf, positionOf, zeroBitSet, badAddress, badMode, badCount, aboveWord, badSecond, aboveP, camacFault, decodeOf};
+ghost use Rattle.camac.specs.Words.{qmodeIn, addressIn, isControl, isWrite, halfwords, blockWords, transferIn, commandIn, qmodeOf, addressOf, wordsOf, directionBy, directionOf, positionOf, zeroBitSet, badAddress, badMode, badCount, aboveWord, badSecond, aboveP, camacFault, decodeOf};
 ghost use lib.ListN.{length};
 
 pub struct Address {
@@ -41,13 +44,7 @@ pub enum Decoded {
     Refused(u8),
 }
 
-fn mode_in(first: u32) -> u32
-    ensures { λ r. ⌜ r ≡ modeIn first ⌝ }
-{
-    (first >> 5) % 4
-}
-
-fn qmode_in(first: u32) -> QMode
+pub fn qmode_in(first: u32) -> QMode
     ensures { λ r. ⌜ r ≡ qmodeIn first ⌝ }
 {
     match (first >> 3) % 4 {
@@ -58,7 +55,7 @@ fn qmode_in(first: u32) -> QMode
     }
 }
 
-fn address_in(first: u32) -> Address
+pub(crate) fn address_in(first: u32) -> Address
     ensures { λ r. ⌜ r ≡ addressIn first ⌝ }
 {
     Address {
@@ -67,13 +64,6 @@ fn address_in(first: u32) -> Address
         subaddress: ((first >> 21) % 16) as u8,
         function: ((first >> 16) % 32) as u8,
     }
-}
-
-// Whether the words are of 24 bits.
-fn wide_in(first: u32) -> bool
-    ensures { λ r. ⌜ r ≡ wideIn first ⌝ }
-{
-    (first >> 1) % 2 != 1
 }
 
 fn is_control(f: u8) -> bool
@@ -98,7 +88,7 @@ fn halfwords_in(second: u32) -> u64
     (1 << 32) - (second as u64)
 }
 
-fn block_words(wide: bool, second: u32) -> u64
+pub(crate) fn block_words(wide: bool, second: u32) -> u64
     ensures { λ r. ⌜ r ≡ blockWords wide second ⌝ }
 {
     if wide {
@@ -124,11 +114,11 @@ pub fn command_in(first: u32, second: u32) -> Command
 {
     let q = qmode_in(first);
     let a = address_in(first);
-    let wide = wide_in(first);
+    let wide = is_wide(first);
     Command {
         transfer: transfer_in(mode_in(first), q, a, wide, second),
         wide: wide,
-        ad: first % 2 == 1,
+        ad: has_ad(first),
     }
 }
 
@@ -245,22 +235,20 @@ fn is_bad_mode(length: usize, first: u32) -> bool
     ensures { λ r. ⌜ r ≡ badMode length first ⌝ }
 {
     let a = address_in(first);
-    match mode_in(first) {
-        0 => length != 4,
-        1 => {
-            if length != 8 {
-                return true;
-            }
-            is_control(a.function)
-        }
-        2 => true,
-        _ => {
-            if length != 8 {
-                return true;
-            }
-            !is_write(a.function)
-        }
+    let mode = mode_in(first);
+    if mode == 0 {
+        return length != 4;
     }
+    if length != 8 {
+        return true;
+    }
+    if mode == 1 {
+        return is_control(a.function);
+    }
+    if mode == 3 {
+        return !is_write(a.function);
+    }
+    true
 }
 
 fn is_bad_count(wide: bool, second: u32) -> bool
@@ -291,7 +279,7 @@ fn is_above_word(wide: bool, second: u32) -> bool
 fn is_bad_second(first: u32, second: u32) -> bool
     ensures { λ r. ⌜ r ≡ badSecond first second ⌝ }
 {
-    let wide = wide_in(first);
+    let wide = is_wide(first);
     let mode = mode_in(first);
     if mode == 1 {
         return is_bad_count(wide, second);

@@ -13,6 +13,7 @@ use lib.ListN.{length}
 use Rattle.base.specs.Checks.{if_then_else_, _gives_}
 use Rattle.camac.specs.Words.{modeIn, qmodeIn, addressIn, wideIn, halfwords, blockWords, transferIn, commandIn, qmodeOf, addressOf, wordsOf, isScanIn, zeroBitSet, badAddress, badMode, badCount, aboveWord, badSecond, aboveP, camacFault, decodedBy, decodeOf}
 use Rattle.camac.specs.Modes.{isScan}
+use Rattle.camac.proofs.BitLaws.{command-qmode, command-address}
 use Rattle.camac.specs.declared.modes.QMode.{QMode}
 use Rattle.camac.specs.declared.modes.QMode.the-variants.{Scan}
 use Rattle.camac.specs.declared.words.Address.{Address}
@@ -54,20 +55,6 @@ second-most list at hb = go (eqb (bodyLength list at) 8)
     go false = omega arith
 
 -- A CAMAC instruction ----------------------------------------------------------------------------------------------------
-
-transfer-address : (mode : ℕ) (q : QMode) (a : Address) (wide : Bool) (second : ℕ) → addressOf (transferIn mode q a wide second) ≡ a
-unfolding addressOf transferIn
-transfer-address zero q a wide second = refl
-transfer-address (suc zero) q a wide second = refl
-transfer-address (suc (suc zero)) q a wide second = refl
-transfer-address (suc (suc (suc k))) q a wide second = refl
-
-transfer-qmode : (mode : ℕ) (q : QMode) (a : Address) (wide : Bool) (second : ℕ) → qmodeOf (transferIn mode q a wide second) ≡ q
-unfolding qmodeOf transferIn
-transfer-qmode zero q a wide second = refl
-transfer-qmode (suc zero) q a wide second = refl
-transfer-qmode (suc (suc zero)) q a wide second = refl
-transfer-qmode (suc (suc (suc k))) q a wide second = refl
 
 -- a block that passes 9 wants 1 to 65,536 words
 block-words : (wide : Bool) (second : ℕ) → second < 4294967296 → badCount wide second ≡ false
@@ -122,8 +109,8 @@ command-sound len first second h e =
     record {
       words-least = words .0;
       words-most = words .1;
-      scan = λ q. scan-sound first t (transfer-address (modeIn first) _ _ _ _) address (or-false-right (badSecond first second) _ not-nine)
-          (sym (transfer-qmode (modeIn first) _ _ _ _) ∙ q);
+      scan = λ q. scan-sound first t (command-address first second) address (or-false-right (badSecond first second) _ not-nine)
+          (sym (command-qmode first second) ∙ q);
     }
 
 decode-sound : (len first second : ℕ) (c : Command) → second < 4294967296 → decodeOf len first second ≡ Carried c → SoundCommand c

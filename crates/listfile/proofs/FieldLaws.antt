@@ -1,18 +1,18 @@
--- One field's checks by their places; and what a field that is read shows: it lies in the list, it is one of the first 4,096, its body is
+-- A field's answer by its checks; and what a field that is read shows: it lies in the list, it is one of the first 4,096, its body is
 -- at most eight bytes, and read again without checks it is the same.
 use Prim.Native.Nat.{ℕ, zero, suc, _+_, _≤_, _<_}
-use mathlib.Core.Path.{_≡_, refl, sym, _∙_}
+use mathlib.Core.Path.{_≡_, refl}
 use mathlib.Core.Bool.{Bool, true, false, _||_, true≢false}
 use mathlib.Core.List.{List}
 use native.Mathlib.Omega.{arith}
-use borrow.Author.Tests.{le-ltb, lt-ltb, ltb-false, leb-false, eqb-true, not-false}
+use borrow.Author.Tests.{le-ltb, lt-leb, ltb-false, leb-false, eqb-true, not-false}
 use lib.Dec.{eqb}
-use lib.ListN.{length, drop}
+use lib.ListN.{length}
 use Rattle.base.proofs.Checks.{passed, FirstAt, numberAt, first-at}
 use Rattle.camac.specs.Words.{commandIn, camacFault, decodedBy, decodeOf}
 use Rattle.camac.specs.declared.words.Command.{Command}
 use Rattle.listfile.specs.Fields.{bodyLength, nextField, tagAt, firstAt, secondAt, wrongLength, headChecks, headFault, carriedBy, bodyOf, afterHead, fieldOf}
-use Rattle.listfile.specs.model.Table.{instructionBy, instructionAt}
+use Rattle.listfile.specs.model.Table.{instructionBy, instructionAt, readBy}
 use Rattle.listfile.specs.declared.field.Instruction.{Instruction}
 use Rattle.listfile.specs.declared.field.Instruction.the-variants.{Camac}
 use Rattle.listfile.specs.declared.field.FieldRead.{FieldRead}
@@ -20,38 +20,31 @@ use Rattle.listfile.specs.declared.field.FieldRead.the-variants.{Read, R
 use Rattle.listfile.specs.declared.field.Tag.{Tag}
 use Rattle.listfile.specs.declared.field.Tag.the-variants.{CamacTag, JumpTag, LiteralTag, HaltTag, UnknownTag}
 
--- Refusals 1, 5, 3 and 4 ---------------------------------------------------------------------------------------------------
-
-pub head-by : (list : List ℕ) (at count k : ℕ) → FirstAt k (headChecks list at count)
-    → numberAt k (headChecks list at count) ≡ headFault list at count
-unfolding headFault
-head-by list at count k h = sym (first-at k (headChecks list at count) h)
-
--- where the field lies in the list, the checks behind the first two decide
-pub head-inside : (list : List ℕ) (at count k : ℕ) → nextField list at ≤ length list → FirstAt k (drop 2 (headChecks list at count))
-    → numberAt k (drop 2 (headChecks list at count)) ≡ headFault list at count
-head-inside list at count k h f =
-    head-by list at count (suc (suc k)) (le-ltb (length list) (at + 3) (omega arith), (le-ltb (length list) (nextField list at) h, f))
-
 -- A field's answer ---------------------------------------------------------------------------------------------------------
 
-pub field-refused : (list : List ℕ) (at count f : ℕ) → f ≡ headFault list at count → ¬ (f ≡ 0)
-    → Refused f ≡ fieldOf list at count
-unfolding fieldOf
-field-refused list at count f e h = rw (← e) (go f h)
+-- where the checks of the head before place k fail and the one there holds
+pub field-refused : (list : List ℕ) (at count k : ℕ) → FirstAt k (headChecks list at count) → ¬ (numberAt k (headChecks list at count) ≡ 0)
+    → Refused (numberAt k (headChecks list at count)) ≡ fieldOf list at count
+unfolding fieldOf headFault
+field-refused list at count k f h = rw (first-at k (headChecks list at count) f) (go (numberAt k (headChecks list at count)) h)
   where
-    go : (f : ℕ) → ¬ (f ≡ 0) → Refused f ≡ afterHead f (bodyOf (tagAt list at) list at)
+    go : (n : ℕ) → ¬ (n ≡ 0) → Refused n ≡ afterHead n (bodyOf (tagAt list at) list at)
     go zero h = absurd (h refl)
-    go (suc f) h = refl
+    go (suc n) h = refl
 
-pub field-past : (list : List ℕ) (at count : ℕ) → length list ≤ at → Refused 1 ≡ fieldOf list at count
-field-past list at count h =
-    field-refused list at count 1 (head-by list at count 0 (lt-ltb (length list) (at + 3) (omega arith))) (λ e. omega arith)
+-- where the field lies in the list and is one of the first 4,096, its tag decides
+pub field-inside : (list : List ℕ) (at count : ℕ) → nextField list at ≤ length list → count < 4096
+    → readBy (tagAt list at) list at ≡ fieldOf list at count
+unfolding fieldOf headFault
+field-inside list at count h l =
+    rw (le-ltb (length list) (at + 3) (omega arith), le-ltb (length list) (nextField list at) h, lt-leb 4096 count l)
 
-pub field-body : (list : List ℕ) (at count f : ℕ) → f ≡ headFault list at count → f ≡ 0 → (tag : Tag)
-    → tag ≡ tagAt list at → (r : FieldRead) → r ≡ bodyOf tag list at → r ≡ fieldOf list at count
-unfolding fieldOf
-field-body list at count f e z tag et r er = er ∙ rw (← e, z, et)
+pub longwords-least : (len : ℕ) → (eqb len 4 || eqb len 8) ≡ true → 4 ≤ len
+longwords-least len h = go (eqb len 4) refl h
+  where
+    go : (b : Bool) → eqb len 4 ≡ b → b || eqb len 8 ≡ true → 4 ≤ len
+    go true q h = omega (arith, eqb-true len 4 q)
+    go false q h = omega (arith, eqb-true len 8 h)
 
 -- What a field that is read shows ------------------------------------------------------------------------------------------
 
@@ -70,8 +63,9 @@ pub record Lies (list : List ℕ) (at count : ℕ) : Type 0 where
   pub inside : at + 3 + bodyLength list at ≤ length list
   pub few : count < 4096
   pub short : bodyLength list at ≤ 8
+  pub right : wrongLength (tagAt list at) (bodyLength list at) ≡ false
 
-read-head : (list : List ℕ) (at count : ℕ) (i : Instruction) → fieldOf list at count ≡ Read i
+pub read-head : (list : List ℕ) (at count : ℕ) (i : Instruction) → fieldOf list at count ≡ Read i
     → headFault list at count ≡ 0
 unfolding fieldOf
 read-head list at count i e = go (headFault list at count) e
@@ -88,6 +82,7 @@ field-lies list at count i e =
       inside = ltb-false (length list) (nextField list at) (c .1 .0);
       few = leb-false 4096 count (c .1 .1 .0);
       short = length-small (tagAt list at) (bodyLength list at) (c .1 .1 .1 .1 .0);
+      right = c .1 .1 .1 .1 .0;
     }
 
 body-again : (tag : Tag) (list : List ℕ) (at : ℕ) (i : Instruction) → bodyOf tag list at ≡ Read i

@@ -1,5 +1,6 @@
 pub mod FieldLaws
 pub mod FirstLaws
+pub mod PartLaws
 pub mod PassLaws
 pub mod ListLaws
 pub mod Sound

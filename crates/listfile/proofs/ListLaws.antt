@@ -5,8 +5,9 @@ use mathlib.Core.List.{List}
 use lib.ListN.{length}
 use Rattle.base.specs.Bytes.{shortAt}
 use Rattle.listfile.specs.Fields.{firstFault, fieldsFrom, fields, firstBadJump, refused, program, afterFirst, programOf}
-use Rattle.listfile.specs.model.Table.{firstFields, TableRight, fieldsBy, TableBy, refusalIn, badJumpBy}
+use Rattle.listfile.specs.model.Table.{firstFields, TableRight, Beyond, fieldsBy, TableBy, refusalIn, badJumpBy}
 use Rattle.base.specs.declared.Refusal.{Refusal}
+use Rattle.listfile.specs.declared.check.Extent.{Extent}
 use Rattle.listfile.specs.declared.check.Pass.{Pass}
 use Rattle.listfile.specs.declared.check.Pass.the-variants as pass
 use Rattle.listfile.specs.declared.check.Jumps.{Jumps}
@@ -27,16 +28,16 @@ module _ (list : List ℕ) (first : firstFault list ≡ 0) (p : Pass) (ep : fiel
   unfolding programOf
   list-fields q r e er = rw (first, ep, er, e)
 
-  module _ (n : ℕ) (en : p ≡ pass.Count n) (j : Jumps) (ej : firstBadJump n (firstFields list n) ≡ badJumpBy j) where
+  module _ (x : Extent) (en : p ≡ pass.Through x) (j : Jumps) (ej : firstBadJump (x .count) (firstFields list (x .count)) ≡ badJumpBy j) where
     pub list-jumps : (place : ℕ) → j ≡ BadAt place → programOf list ≡ refused (record { number = 10; place = place })
     unfolding programOf
-    list-jumps place e = rw (first, ep, en, count-fields list n, ej, e)
+    list-jumps place e = rw (first, ep, en, count-fields list (x .count), ej, e)
 
     pub list-program : (limit : ℕ) → limit ≡ shortAt list 5 → j ≡ Right
-        → programOf list ≡ program (record { limit = limit; fields = firstFields list n })
+        → programOf list ≡ program (record { limit = limit; fields = firstFields list (x .count) })
     unfolding programOf
-    list-program limit el e = rw (first, ep, en, count-fields list n, ej, e, el)
+    list-program limit el e = rw (first, ep, en, count-fields list (x .count), ej, e, el)
 
-pub table-counted : (list table : List ℕ) (p : Pass) (n : ℕ) → p ≡ pass.Count n → TableBy list table p
-    → (n ≤ 4096) × TableRight list table n
-table-counted list table p n e t = subst (λ (x : Pass). TableBy list table x) e t
+pub table-counted : (list table : List ℕ) (p : Pass) (x : Extent) → p ≡ pass.Through x → TableBy list table p
+    → (x .count ≤ 4096) × (TableRight list table (x .count) × Beyond list (x .count) (x .furthest))
+table-counted list table p x e t = subst (λ (q : Pass). TableBy list table q) e t

@@ -1,9 +1,9 @@
 -- One field more of the pass, for a loop that counts by n + 1: the fields from the start are those passed, in front of those from here on.
 -- Entry k of a right table is the place of field k of the fields passed.
 use Prim.Native.Nat.{ℕ, zero, suc, _+_, _-_, _≤_, _<_}
-use mathlib.Core.Path.{_≡_, refl, sym, ap, _∙_}
-use mathlib.Core.Logic.{⊎-elim}
-use mathlib.Core.Bool.{true, false}
+use mathlib.Core.Path.{_≡_, refl, sym, ap, _∙_, subst}
+use mathlib.Core.Logic.{_⊎_, ⊎-elim}
+use mathlib.Core.Bool.{Bool, true, false}
 use mathlib.Core.List.{List, [], _∷_, _++_, append-assoc}
 use mathlib.Core.Option.{none, some}
 use native.Mathlib.Omega.{arith}
@@ -12,9 +12,11 @@ use native.Mathlib.Nat.{le-of-suc-le-suc, eq-or-lt-of-le}
 use borrow.Author.Tests.{le-leb, lt-leb}
 use lib.ListN.{length, getD, set, drop, length-append, List·getD-append}
 use lib.Seq.{getD-set-same, getD-set-other, drop-cons, drop-nil, getD-append-seam}
+use Rattle.base.specs.Checks.{if_then_else_}
 use Rattle.listfile.specs.Fields.{nextField, fieldOf, numberOf, Field, Fields, faulty, fields, ahead, fieldsFrom, badTarget, firstBadJump}
-use Rattle.listfile.specs.model.Table.{instructionAt, placeOf, firstFields, TableRight}
+use Rattle.listfile.specs.model.Table.{instructionAt, placeOf, firstFields, FieldPassed, TableRight, TargetBelow, Beyond}
 use Rattle.listfile.specs.declared.field.Instruction.{Instruction}
+use Rattle.listfile.specs.declared.field.Instruction.the-variants.{Camac, Jump, Literal, Halt}
 use Rattle.listfile.specs.declared.field.FieldRead.{FieldRead}
 use Rattle.listfile.specs.declared.field.FieldRead.the-variants.{Read, Refused}
 use Rattle.listfile.proofs.FieldLaws.{read-again}
@@ -98,16 +100,41 @@ unfolding placeOf
 place-more list at n next e l = rw (add-one n, l, e)
 
 pub table-none : (list table : List ℕ) → TableRight list table 0
-table-none list table = record { entry = λ k h. absurd (omega arith) }
+table-none list table = record { entry = λ k h. absurd (omega arith); passed = λ k h. absurd (omega arith) }
 
-pub table-more : (list table : List ℕ) (at n : ℕ) → TableRight list table n → n < length table → at ≡ placeOf list n
-    → TableRight list (set table n at) (n + 1)
-table-more list table at n t h e = record {
+below-next : (k n : ℕ) → k < n + 1 → (k ≡ n) ⊎ (k < n)
+below-next k n h = eq-or-lt-of-le (le-of-suc-le-suc (rw (add-one n) at h))
+
+pub table-more : (list table : List ℕ) (at n : ℕ) (i : Instruction) → TableRight list table n → n < length table → at ≡ placeOf list n
+    → fieldOf list at n ≡ Read i → TableRight list (set table n at) (n + 1)
+table-more list table at n i t h e r = record {
   entry = λ k l.
       ⊎-elim
       (λ p. rw p (getD-set-same table n at 0 h ∙ e))
       (λ b. getD-set-other table n k at 0 (λ q. omega arith) ∙ t .entry k b)
-      (eq-or-lt-of-le (le-of-suc-le-suc (rw (add-one n) at l)));
+      (below-next k n l);
+  passed = λ k l. ⊎-elim (λ p. rw p (subst (FieldPassed list) e (record { count = n; read = r ∙ ap Read (read-again list at n i r) }))) (λ b. t .passed k b) (below-next k n l);
+}
+
+-- Jumps --------------------------------------------------------------------------------------------------------------------
+
+above-more : (x y : ℕ) (i : Instruction) → x ≤ y → TargetBelow x i → TargetBelow y i
+above-more x y (Camac c) h t = tt
+above-more x y (Jump target) h t = omega arith
+above-more x y (Literal v) h t = tt
+above-more x y Halt h t = tt
+
+pub beyond-none : (list : List ℕ) (x : ℕ) → Beyond list 0 x
+beyond-none list x = record { target = λ k h. absurd (omega arith) }
+
+pub beyond-more : (list : List ℕ) (at n x y : ℕ) (i : Instruction) → Beyond list n x → at ≡ placeOf list n → fieldOf list at n ≡ Read i
+    → x ≤ y → TargetBelow y i → Beyond list (n + 1) y
+beyond-more list at n x y i b e r h t = record {
+  target = λ k l.
+      ⊎-elim
+      (λ p. rw p (subst (λ (a : ℕ). TargetBelow y (instructionAt list a)) e (subst (TargetBelow y) (read-again list at n i r) t)))
+      (λ l. above-more x y (instructionAt list (placeOf list k)) h (b .target k l))
+      (below-next k n l);
 }
 
 pub count-fields : (list : List ℕ) (n : ℕ) → length (firstFields list n) ≡ n
@@ -153,6 +180,33 @@ drop-past : (fs : List Field) (k : ℕ) → length fs ≤ k → drop k fs ≡ []
 drop-past [] k h = drop-nil k
 drop-past (f ∷ fs) zero h = absurd (omega arith)
 drop-past (f ∷ fs) (suc k) h = drop-past fs k (omega arith)
+
+-- a field more, whose jump leads to one of the instructions
+right-more : (m : ℕ) (fs : List Field) (f : Field) → firstBadJump m fs ≡ none → badTarget m (f .instruction) ≡ false
+    → firstBadJump m (fs ++ f ∷ []) ≡ none
+unfolding firstBadJump
+right-more m [] f e h = rw h
+right-more m (g ∷ fs) f e h = go (badTarget m (g .instruction)) e (λ e. right-more m fs f e h)
+  where
+    go : (b : Bool) → (if b then some (g .place) else firstBadJump m fs) ≡ none → (firstBadJump m fs ≡ none → firstBadJump m (fs ++ f ∷ []) ≡ none)
+        → (if b then some (g .place) else firstBadJump m (fs ++ f ∷ [])) ≡ none
+    go true e ih = e
+    go false e ih = ih e
+
+right-target : (m x : ℕ) (i : Instruction) → x ≤ m → TargetBelow x i → badTarget m i ≡ false
+right-target m x (Camac c) h t = refl
+right-target m x (Jump target) h t = lt-leb m target (omega arith)
+right-target m x (Literal v) h t = refl
+right-target m x Halt h t = refl
+
+-- where no jump leads past the last instruction, none is bad
+pub jumps-within : (list : List ℕ) (n m x : ℕ) → Beyond list n x → x ≤ m → firstBadJump m (firstFields list n) ≡ none
+unfolding firstFields firstBadJump
+jumps-within list zero m x b h = refl
+jumps-within list (suc n) m x b h =
+    right-more m (firstFields list n) (here list (placeOf list n))
+    (jumps-within list n m x (record { target = λ k l. b .target k (omega arith) }) h)
+    (right-target m x (instructionAt list (placeOf list n)) h (b .target n (omega arith)))
 
 pub jumps-right : (list : List ℕ) (n k : ℕ) → n ≤ k → firstBadJump n (drop k (firstFields list n)) ≡ none
 unfolding firstBadJump

@@ -10,12 +10,18 @@ ghost use mathlib.Core.Path.{_≡_};
 ghost use Prim.Native.Nat.{_≤_};
 ghost use lib.ListN.{length};
 ghost use Rattle.listfile.specs.Fields.{isFirst, firstFault, fieldsFrom, badTarget, firstBadJump, programOf};
-ghost use Rattle.listfile.specs.model.Table.{firstFields, TableRight, fieldsBy, TableBy, refusalIn, badJumpBy, listedBy, TableChecked, refusalOf};
+ghost use Rattle.listfile.specs.model.Table.{firstFields, TableRight, TargetBelow, Beyond, fieldsBy, TableBy, refusalIn, badJumpBy, listedBy, TableChecked, refusalOf};
 
-// What the pass over the fields finds: the first refusal with its place, or the number of instructions.
+// The number of instructions, and a number above the target of each jump.
+pub struct Extent {
+    pub count: usize,
+    pub furthest: usize,
+}
+
+// What the pass over the fields finds: the first refusal with its place, or how far they reach.
 pub enum Pass {
     Refused(Refusal),
-    Count(usize),
+    Through(Extent),
 }
 
 // The first jump whose target is no instruction.
@@ -36,6 +42,24 @@ pub enum Checked {
     Passed(Sizes),
 }
 
+// A number above a jump's target too.
+fn beyond(furthest: usize, i: Instruction) -> usize
+    ensures { λ r. ⌜ (furthest ≤ r) × TargetBelow r i ⌝ }
+{
+    match i {
+        Instruction::Camac(_) => furthest,
+        Instruction::Jump(target) => {
+            let above = base::usize_of_short(target) + 1;
+            if above < furthest {
+                return furthest;
+            }
+            above
+        }
+        Instruction::Literal(_) => furthest,
+        Instruction::Halt => furthest,
+    }
+}
+
 // Front to back over the fields behind the first; the table gets the place of each. The caller's table has 4,096 entries.
 fn pass_fields(list: &[u8], table: &mut [u16]) -> Pass
     requires { ⌜ (7 ≤ length (now list)) × (length (now table) ≡ 4096) ⌝ }
@@ -44,9 +68,10 @@ fn pass_fields(list: &[u8], table: &mut [u16]) -> Pass
 {
     let mut at: usize = 7;
     let mut count: usize = 0;
+    let mut furthest: usize = 0;
     while at < list.len() {
         let field = read_at(list, at, count);
-        let FieldRead::Read(_) = field else {
+        let FieldRead::Read(i) = field else {
             return Pass::Refused(Refusal {
                 number: number_of(field),
                 place: at,
@@ -54,10 +79,14 @@ fn pass_fields(list: &[u8], table: &mut [u16]) -> Pass
         };
         let next = next_place(list, at);
         table[count] = at as u16;
+        furthest = beyond(furthest, i);
         at = next;
         count += 1;
     }
-    Pass::Count(count)
+    Pass::Through(Extent {
+        count: count,
+        furthest: furthest,
+    })
 }
 
 fn is_bad_target(count: usize, i: Instruction) -> bool
@@ -71,7 +100,7 @@ fn is_bad_target(count: usize, i: Instruction) -> bool
     }
 }
 
-// Refusal 10 over all fields.
+// The first such jump, field by field.
 fn check_jumps(list: &[u8], table: &[u16], count: usize) -> Jumps
     requires { ⌜ (count ≤ length (now table)) × TableRight (now list) (now table) count ⌝ }
     ensures { λ r. ⌜ firstBadJump count (firstFields (now (list .entry)) count) ≡ badJumpBy r ⌝ }
@@ -85,6 +114,17 @@ fn check_jumps(list: &[u8], table: &[u16], count: usize) -> Jumps
         k += 1;
     }
     Jumps::Right
+}
+
+// Refusal 10 over all fields, which are looked at again only where a jump leads past the last instruction.
+fn bad_jump(list: &[u8], table: &[u16], count: usize, furthest: usize) -> Jumps
+    requires { ⌜ (count ≤ length (now table)) × (TableRight (now list) (now table) count × Beyond (now list) count furthest) ⌝ }
+    ensures { λ r. ⌜ firstBadJump count (firstFields (now (list .entry)) count) ≡ badJumpBy r ⌝ }
+{
+    if furthest <= count {
+        return Jumps::Right;
+    }
+    check_jumps(list, table, count)
 }
 
 // The first field's tag, format and zero byte are as in the table. It is seven bytes.
@@ -126,7 +166,7 @@ fn refusal_in(p: Pass) -> Refusal
 {
     match p {
         Pass::Refused(r) => r,
-        Pass::Count(_) => Refusal {
+        Pass::Through(_) => Refusal {
             number: 0,
             place: 0,
         },
@@ -148,10 +188,11 @@ pub fn check_list(list: &[u8], table: &mut [u16]) -> Checked
         });
     }
     let pass = pass_fields(list, table);
-    let Pass::Count(count) = pass else {
+    let Pass::Through(extent) = pass else {
         return Checked::Refused(refusal_in(pass));
     };
-    let jumps = check_jumps(list, table, count);
+    let count = extent.count;
+    let jumps = bad_jump(list, table, count, extent.furthest);
     match jumps {
         Jumps::BadAt(place) => Checked::Refused(Refusal {
             number: 10,

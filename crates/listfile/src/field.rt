@@ -2,12 +2,12 @@
 use camac::Command;
 use camac::Decoded;
 ghost use mathlib.Core.Path.{_≡_};
-ghost use Rattle.camac.specs.Words.{decodeOf};
-ghost use Prim.Native.Nat.{_<_};
+ghost use Prim.Native.Nat.{_<_, _≤_};
 ghost use lib.ListN.{length};
-ghost use lib.Dec.{leb};
-ghost use Rattle.listfile.specs.Fields.{tagOf, tagAt, bodyLength, nextField, placeAfter, firstAt, secondAt, isUnknown, wrongLength, headFault, numberIn, carriedBy, bodyOf, fieldOf, numberOf};
-ghost use Rattle.listfile.specs.model.Table.{instructionAt};
+ghost use lib.Dec.{leb, eqb};
+ghost use mathlib.Core.Bool.{_||_};
+ghost use Rattle.listfile.specs.Fields.{tagOf, tagAt, bodyLength, nextField, placeAfter, secondAt, numberIn, bodyOf, fieldOf, numberOf};
+ghost use Rattle.listfile.specs.model.Table.{instructionAt, readBy};
 
 pub enum Instruction {
     Camac(Command),
@@ -45,7 +45,7 @@ fn tag_of(byte: u8) -> Tag
     }
 }
 
-fn tag_at(list: &[u8], at: usize) -> Tag
+pub fn tag_at(list: &[u8], at: usize) -> Tag
     ensures { λ r. ⌜ r ≡ tagAt (now (list .entry)) at ⌝ }
 {
     tag_of(base::byte_at(list, at))
@@ -109,61 +109,6 @@ pub fn instruction_at(list: &[u8], place: u16) -> Instruction
     }
 }
 
-fn is_unknown(tag: Tag) -> bool
-    ensures { λ r. ⌜ r ≡ isUnknown tag ⌝ }
-{
-    match tag {
-        Tag::CamacTag => false,
-        Tag::JumpTag => false,
-        Tag::LiteralTag => false,
-        Tag::HaltTag => false,
-        Tag::UnknownTag => true,
-    }
-}
-
-fn is_wrong_length(tag: Tag, len: usize) -> bool
-    ensures { λ r. ⌜ r ≡ wrongLength tag len ⌝ }
-{
-    match tag {
-        Tag::CamacTag => {
-            if len == 4 {
-                return false;
-            }
-            len != 8
-        }
-        Tag::JumpTag => len != 2,
-        Tag::LiteralTag => len != 4,
-        Tag::HaltTag => len != 0,
-        Tag::UnknownTag => true,
-    }
-}
-
-// Refusals 1, 5, 3 and 4 of the field at a place, 0 where none applies. A place is below 2^63.
-fn head_fault(list: &[u8], at: usize, count: usize) -> u8
-    requires { ⌜ at < 9223372036854775808 ⌝ }
-    ensures { λ r. ⌜ r ≡ headFault (now (list .entry)) at count ⌝ }
-{
-    if list.len() < at + 3 {
-        return 1;
-    }
-    let len = base::short_at(list, at + 1);
-    if list.len() < at + 3 + len {
-        return 1;
-    }
-    let tag = tag_at(list, at);
-    let unknown = is_unknown(tag);
-    if MOST_INSTRUCTIONS <= count {
-        return 5;
-    }
-    if unknown {
-        return 3;
-    }
-    if is_wrong_length(tag, len) {
-        return 4;
-    }
-    0
-}
-
 // The number of a decode's refusal, 0 where it is none.
 fn number_in(d: Decoded) -> u8
     ensures { λ r. ⌜ r ≡ numberIn d ⌝ }
@@ -174,29 +119,61 @@ fn number_in(d: Decoded) -> u8
     }
 }
 
-// A CAMAC field's body. A place is below 2^63.
+// The length of one longword or of two.
+fn is_one_or_two(len: usize) -> bool
+    ensures { λ r. ⌜ r ≡ (eqb len 4 || eqb len 8) ⌝ }
+{
+    if len == 4 {
+        return true;
+    }
+    len == 8
+}
+
+// A CAMAC field's body, which lies in the list and has one longword or two.
 fn camac_at(list: &[u8], at: usize) -> FieldRead
-    requires { ⌜ at < 9223372036854775808 ⌝ }
-    ensures { λ r. ⌜ r ≡ carriedBy (decodeOf (bodyLength (now (list .entry)) at) (firstAt (now (list .entry)) at) (secondAt (now (list .entry)) at)) ⌝ }
+    requires { ⌜ (nextField (now list) at ≤ length (now list)) × (4 ≤ bodyLength (now list) at) ⌝ }
+    ensures { λ r. ⌜ r ≡ bodyOf Tag.CamacTag (now (list .entry)) at ⌝ }
 {
     let len = base::short_at(list, at + 1);
-    let decoded = camac::decode(len, base::long_at(list, at + 3), second_at(list, at));
+    let decoded = camac::decode(len, base::whole_at(list, at + 3), second_at(list, at));
     let Decoded::Carried(command) = decoded else {
         return FieldRead::Refused(number_in(decoded));
     };
     FieldRead::Read(Instruction::Camac(command))
 }
 
-// A field's body by its tag. A place is below 2^63.
-fn body_at(list: &[u8], at: usize, tag: Tag) -> FieldRead
-    requires { ⌜ at < 9223372036854775808 ⌝ }
-    ensures { λ r. ⌜ r ≡ bodyOf tag (now (list .entry)) at ⌝ }
+// A field that lies in the list, by its tag: refusals 3, 4 and 6 to 9. The tag is matched once.
+fn body_at(list: &[u8], at: usize) -> FieldRead
+    requires { ⌜ nextField (now list) at ≤ length (now list) ⌝ }
+    ensures { λ r. ⌜ r ≡ readBy (tagAt (now (list .entry)) at) (now (list .entry)) at ⌝ }
 {
+    let len = base::short_at(list, at + 1);
+    let tag = tag_at(list, at);
     match tag {
-        Tag::CamacTag => camac_at(list, at),
-        Tag::JumpTag => FieldRead::Read(Instruction::Jump(base::short_at(list, at + 3) as u16)),
-        Tag::LiteralTag => FieldRead::Read(Instruction::Literal(base::long_at(list, at + 3))),
-        Tag::HaltTag => FieldRead::Read(Instruction::Halt),
+        Tag::CamacTag => {
+            if is_one_or_two(len) {
+                return camac_at(list, at);
+            }
+            FieldRead::Refused(4)
+        }
+        Tag::JumpTag => {
+            if len == 2 {
+                return FieldRead::Read(Instruction::Jump(base::short_at(list, at + 3) as u16));
+            }
+            FieldRead::Refused(4)
+        }
+        Tag::LiteralTag => {
+            if len == 4 {
+                return FieldRead::Read(Instruction::Literal(base::long_at(list, at + 3)));
+            }
+            FieldRead::Refused(4)
+        }
+        Tag::HaltTag => {
+            if len == 0 {
+                return FieldRead::Read(Instruction::Halt);
+            }
+            FieldRead::Refused(4)
+        }
         Tag::UnknownTag => FieldRead::Refused(3),
     }
 }
@@ -208,11 +185,16 @@ pub fn field_at(list: &[u8], at: usize, count: usize) -> FieldRead
     if list.len() <= at {
         return FieldRead::Refused(1);
     }
-    let fault = head_fault(list, at, count);
-    if fault != 0 {
-        return FieldRead::Refused(fault);
+    if list.len() < at + 3 {
+        return FieldRead::Refused(1);
     }
-    body_at(list, at, tag_at(list, at))
+    if list.len() < next_place(list, at) {
+        return FieldRead::Refused(1);
+    }
+    if MOST_INSTRUCTIONS <= count {
+        return FieldRead::Refused(5);
+    }
+    body_at(list, at)
 }
 
 // The number of a field's refusal, 0 where it is none.

@@ -8,9 +8,9 @@ use mathlib.Core.Option.{some}
 use native.Mathlib.Omega.{arith}
 use lib.Dec.{eqb}
 use Rattle.base.specs.Checks.{if_then_else_}
-use Rattle.camac.specs.Words.{modeIn, qmodeIn, addressIn, wideIn, blockWords, transferIn, commandIn, qmodeOf, wordsOf, directionOf, positionOf}
+use Rattle.camac.specs.Words.{qmodeIn, wideIn, commandIn, qmodeOf, wordsOf, directionOf, positionOf}
 use Rattle.camac.specs.declared.modes.QMode.{QMode}
-use Rattle.camac.specs.declared.words.Address.{Address}
+use Rattle.camac.specs.declared.scan.ScanPosition.{ScanPosition}
 use Rattle.camac.specs.declared.words.Command.{Command}
 use Rattle.camac.specs.declared.words.Direction.{Direction}
 use Rattle.camac.specs.declared.words.Direction.the-variants.{Incoming, Outgoing, Neither}
@@ -25,6 +25,7 @@ use Rattle.listfile.specs.declared.field.Tag.{Tag}
 use Rattle.listfile.specs.declared.field.Tag.the-variants.{CamacTag, JumpTag, LiteralTag, HaltTag, UnknownTag}
 use Rattle.walk.specs.Walk.{nextOf, movedBy, moved, movedWords, marksAfter}
 use Rattle.camac.specs.Modes.{worstWords}
+use Rattle.camac.proofs.BitLaws.{command-qmode, command-wide, command-few}
 use Rattle.camac.proofs.Most.{worst-small}
 use Rattle.walk.specs.Worst.{worstOf}
 use Rattle.walk.specs.model.Sums.{FewWords, addedBy, afterCommand, turnOf}
@@ -77,6 +78,15 @@ command-sums limit c s =
     by Incoming wide n w = refl
     by Outgoing wide n w = refl
     by Neither wide n w = refl
+
+-- the same from what the bits of the longwords say
+pub field-sums : (limit first second : ℕ) (s : Counts) (q : QMode) (p : ScanPosition) (wide : Bool) (n w : ℕ) (d : Direction)
+    → q ≡ qmodeIn first → p ≡ positionOf (commandIn first second .transfer) → wide ≡ wideIn first
+    → n ≡ wordsOf (commandIn first second .transfer) → w ≡ worstWords limit q p n → directionOf (commandIn first second .transfer) ≡ d
+    → addedBy d wide n (s .worst + w) s ≡ afterCommand limit (commandIn first second) s
+unfolding afterCommand
+field-sums limit first second s q p wide n w d eq ep ewide en ew ed =
+    rw (command-qmode first second, command-wide first second, ed, ew, eq, ep, ewide, en)
 
 -- One visit ------------------------------------------------------------------------------------------------------------------
 
@@ -178,19 +188,6 @@ turn-grows limit i k s j s′ hl h e = go i h e
     go Halt h e = let z : _≡_ {A = ℕ} 0 1 = cc in absurd (omega arith)
 
 -- Words of an instruction as it lies in the list ---------------------------------------------------------------------------------
-
-transfer-few : (mode : ℕ) (q : QMode) (a : Address) (wide : Bool) (second : ℕ)
-    → wordsOf (transferIn mode q a wide second) ≤ 4294967296
-unfolding transferIn wordsOf blockWords
-transfer-few zero q a wide second = omega arith
-transfer-few (suc zero) q a true second = omega arith
-transfer-few (suc zero) q a false second = omega arith
-transfer-few (suc (suc zero)) q a wide second = omega arith
-transfer-few (suc (suc (suc k))) q a wide second = omega arith
-
-command-few : (first second : ℕ) → wordsOf (commandIn first second .transfer) ≤ 4294967296
-unfolding commandIn
-command-few first second = transfer-few (modeIn first) (qmodeIn first) (addressIn first) (wideIn first) second
 
 by-few : (tag : Tag) (list : List ℕ) (at : ℕ) → FewWords (instructionBy tag list at)
 unfolding instructionBy

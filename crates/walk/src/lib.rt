@@ -13,6 +13,7 @@ pub use visits::first_spot;
 pub use visits::is_same_spot;
 pub use visits::jump_to;
 pub use visits::spot_after;
+pub use visits::turn_at;
 pub use visits::turn_of;
 pub use worst::Counts;
 ghost use mathlib.Core.Path.{_≡_};

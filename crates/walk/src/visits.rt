@@ -1,12 +1,14 @@
 // The walk, visit by visit.
 use crate::worst::Counts;
 use crate::worst::after_command;
+use crate::worst::after_field;
 use listfile::Instruction;
 use listfile::Sizes;
+use listfile::Tag;
 ghost use mathlib.Core.Path.{_≡_};
 ghost use Prim.Native.Nat.{_<_, _≤_};
 ghost use lib.ListN.{length};
-ghost use Rattle.listfile.specs.model.Table.{TableRight};
+ghost use Rattle.listfile.specs.model.Table.{instructionAt, FieldPassed, TableRight};
 ghost use Rattle.walk.specs.Walk.{firstSpot, spotAfter, jumpTo, sameSpot};
 ghost use Rattle.walk.specs.model.Sums.{FewWords, Below, turnOf, WalkBy};
 
@@ -77,6 +79,29 @@ pub fn turn_of(i: Instruction, at: Spot, limit: u64, s: Counts) -> Turn
     }
 }
 
+// The same at an admitted field, of which it reads what it needs.
+pub fn turn_at(list: &[u8], place: u16, here: Spot, limit: u64, s: Counts) -> Turn
+    requires { ⌜ (limit < 65536) × (FieldPassed (now list) place × ((here .instruction < 65536) × Below 4611686018427387904 s)) ⌝ }
+    ensures { λ r. ⌜ r ≡ turnOf limit (instructionAt (now (list .entry)) place) here s ⌝ }
+{
+    let at = place as usize;
+    let tag = listfile::tag_at(list, at);
+    match tag {
+        Tag::CamacTag => Turn::To(spot_after(here), after_field(limit, list, at, s)),
+        Tag::JumpTag => Turn::To(jump_to(listfile::target_at(list, at), here), s),
+        Tag::LiteralTag => Turn::To(
+            spot_after(here),
+            Counts {
+                worst: s.worst,
+                incoming: packing::mark_after_words(true, 1, s.incoming),
+                outgoing: s.outgoing,
+            },
+        ),
+        Tag::HaltTag => Turn::Stopped,
+        Tag::UnknownTag => Turn::Stopped,
+    }
+}
+
 // The walk over a list that passed 1 to 10, with its sums.
 pub(crate) fn walk(list: &[u8], table: &[u16], sizes: Sizes) -> Walked
     requires { ⌜ (sizes .count ≤ length (now table)) × ((sizes .count ≤ 4096) × ((sizes .limit < 65536) × TableRight (now list) (now table) (sizes .count))) ⌝ }
@@ -96,7 +121,7 @@ pub(crate) fn walk(list: &[u8], table: &[u16], sizes: Sizes) -> Walked
         if count <= k {
             return Walked::Lost;
         }
-        let turn = turn_of(listfile::instruction_at(list, table[k]), here, limit, sums);
+        let turn = turn_at(list, table[k], here, limit, sums);
         let Turn::To(next, s) = turn else {
             return Walked::Halted(sums);
         };

@@ -3,7 +3,10 @@ use camac::Command;
 use camac::Direction;
 ghost use mathlib.Core.Path.{_≡_};
 ghost use Prim.Native.Nat.{_<_, _≤_};
-ghost use Rattle.camac.specs.Words.{wordsOf};
+ghost use Rattle.camac.specs.Words.{commandIn, wordsOf};
+ghost use Rattle.listfile.specs.Fields.{tagAt, firstAt, secondAt};
+ghost use Rattle.listfile.specs.model.Table.{FieldPassed};
+ghost use Rattle.listfile.specs.declared.field.Tag.the-variants.{CamacTag};
 ghost use Rattle.walk.specs.model.Sums.{Below, afterCommand};
 
 // W, B and O: the worst count, and the incoming and the outgoing mark after every word of the walk.
@@ -40,5 +43,36 @@ pub(crate) fn after_command(limit: u64, c: Command, s: Counts) -> Counts
             incoming: s.incoming,
             outgoing: s.outgoing,
         },
+    }
+}
+
+// The same for the CAMAC field at a place, by the bits of its longwords.
+pub(crate) fn after_field(limit: u64, list: &[u8], at: usize, s: Counts) -> Counts
+    requires { ⌜ (limit < 65536) × (FieldPassed (now list) at × ((tagAt (now list) at ≡ CamacTag) × Below 4611686018427387904 s)) ⌝ }
+    ensures { λ r. ⌜ r ≡ afterCommand limit (commandIn (firstAt (now (list .entry)) at) (secondAt (now (list .entry)) at)) s ⌝ }
+{
+    let first = listfile::first_at(list, at);
+    let wide = camac::is_wide(first);
+    let words = listfile::words_at(list, at, first);
+    let worst = s.worst
+        + camac::worst_words(limit, camac::qmode_in(first), camac::start_in(first), words);
+    if camac::reads(first) {
+        return Counts {
+            worst,
+            incoming: packing::mark_after_words(wide, words, s.incoming),
+            outgoing: s.outgoing,
+        };
+    }
+    if camac::writes(first) {
+        return Counts {
+            worst,
+            incoming: s.incoming,
+            outgoing: packing::mark_after_words(wide, words, s.outgoing),
+        };
+    }
+    Counts {
+        worst,
+        incoming: s.incoming,
+        outgoing: s.outgoing,
     }
 }

@@ -6,9 +6,12 @@ use mathlib.Core.Option.{Option, none, some}
 use lib.ListN.{getD}
 use Rattle.camac.specs.Words.{commandIn}
 use Rattle.base.specs.Bytes.{shortAt, longAt}
-use Rattle.listfile.specs.Fields.{nextField, tagAt, firstAt, secondAt, Field, Fields, faulty, fields, Listed, refused, program}
+use Rattle.base.specs.Checks.{_gives_, firstOf}
+use Rattle.listfile.specs.Fields.{bodyLength, nextField, tagAt, firstAt, secondAt, isUnknown, wrongLength, bodyOf, afterHead, fieldOf, Field, Fields, faulty, fields, Listed, refused, program}
 use Rattle.listfile.specs.declared.field.Instruction.{Instruction}
 use Rattle.listfile.specs.declared.field.Instruction.the-variants.{Camac, Jump, Literal, Halt}
+use Rattle.listfile.specs.declared.field.FieldRead.{FieldRead}
+use Rattle.listfile.specs.declared.field.FieldRead.the-variants.{Read}
 use Rattle.listfile.specs.declared.field.Tag.{Tag}
 use Rattle.listfile.specs.declared.field.Tag.the-variants.{CamacTag, JumpTag, LiteralTag, HaltTag, UnknownTag}
 use Rattle.listfile.specs.declared.check.Pass.{Pass}
@@ -27,6 +30,10 @@ instructionBy LiteralTag list at = Literal (longAt list (at + 3))
 instructionBy HaltTag list at = Halt
 instructionBy UnknownTag list at = Halt
 
+-- a field that lies in the list, by its tag: 3, 4, or what its body is read as
+abbrev pub readBy : Tag → List ℕ → ℕ → FieldRead
+readBy tag list at = afterHead (firstOf (isUnknown tag gives 3 ∷ wrongLength tag (bodyLength list at) gives 4 ∷ [])) (bodyOf tag list at)
+
 unfoldable pub instructionAt : List ℕ → ℕ → Instruction
 instructionAt list at = instructionBy (tagAt list at) list at
 
@@ -40,22 +47,39 @@ unfoldable pub firstFields : List ℕ → ℕ → List Field
 firstFields list zero = []
 firstFields list (suc n) = firstFields list n ++ record { place = placeOf list n; instruction = instructionAt list (placeOf list n) } ∷ []
 
--- entry k of a table is the place of instruction k, for the first n
+-- the field at a place has passed its checks
+pub record FieldPassed (list : List ℕ) (at : ℕ) : Type 0 where
+  pub count : ℕ
+  pub read : fieldOf list at count ≡ Read (instructionAt list at)
+
+-- entry k of a table is the place of instruction k, for the first n, and its field has passed its checks
 pub record TableRight (list table : List ℕ) (n : ℕ) : Type 0 where
   pub entry : (k : ℕ) → k < n → getD table k 0 ≡ placeOf list k
+  pub passed : (k : ℕ) → k < n → FieldPassed list (placeOf list k)
+
+-- a jump's target is below a number
+abbrev pub TargetBelow : ℕ → Instruction → Type 0
+TargetBelow x (Camac c) = Unit {0}
+TargetBelow x (Jump target) = target < x
+TargetBelow x (Literal v) = Unit {0}
+TargetBelow x Halt = Unit {0}
+
+-- so is that of each jump among the first n instructions
+pub record Beyond (list : List ℕ) (n x : ℕ) : Type 0 where
+  pub target : (k : ℕ) → k < n → TargetBelow x (instructionAt list (placeOf list k))
 
 -- what an answer of the pass says of the fields, and of the table
 abbrev pub fieldsBy : List ℕ → Pass → Fields
 fieldsBy list (pass.Refused r) = faulty r
-fieldsBy list (pass.Count n) = fields (firstFields list n)
+fieldsBy list (pass.Through e) = fields (firstFields list (e .count))
 
 abbrev pub TableBy : List ℕ → List ℕ → Pass → Type 0
 TableBy list table (pass.Refused r) = Unit {0}
-TableBy list table (pass.Count n) = (n ≤ 4096) × TableRight list table n
+TableBy list table (pass.Through e) = (e .count ≤ 4096) × (TableRight list table (e .count) × Beyond list (e .count) (e .furthest))
 
 abbrev pub refusalIn : Pass → Refusal
 refusalIn (pass.Refused r) = r
-refusalIn (pass.Count n) = record { number = 0; place = 0 }
+refusalIn (pass.Through e) = record { number = 0; place = 0 }
 
 -- what an answer of the check of jumps says of the fields
 abbrev pub badJumpBy : Jumps → Option ℕ

@@ -1,9 +1,9 @@
 -- `long_at` is `longAt`: read at once where all four bytes are there; what lies past the end is zero.
 use borrow.Author.Needs.{needs}
-use mathlib.Core.Path.{sym, _∙_}
+use mathlib.Core.Path.{sym}
 use native.Mathlib.Omega.{arith}
 use Rattle.base.specs.Bytes.{byteAt, shortAt}
-use Rattle.base.proofs.Past.{long-past, long-two, long-three, long-whole}
+use Rattle.base.proofs.Past.{long-past, long-two, long-three}
 use Rattle.base.proofs.bytes.long_at.Statement.{statement}
 use Rattle.base.proofs.bytes.long_at.Tie as tie
 
@@ -14,7 +14,7 @@ whole-at-requires : tie.Need-whole-at-requires
 whole-at-requires c κs = search needs
 
 returns : tie.Need-returns
-returns c = c .whole-at .ensures ∙ sym (long-whole _ _)
+returns c = c .whole-at .ensures
 
 returns-2 : tie.Need-returns-2
 returns-2 c = sym (long-past _ _ (c .if2 .taken))

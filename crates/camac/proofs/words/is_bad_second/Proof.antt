@@ -5,8 +5,8 @@ use borrow.Author.Tests.{ne-eqb}
 use Rattle.camac.proofs.words.is_bad_second.Statement.{statement}
 use Rattle.camac.proofs.words.is_bad_second.Tie as tie
 
-wide-in-requires : tie.Need-wide-in-requires
-wide-in-requires c κs = search needs
+is-wide-requires : tie.Need-is-wide-requires
+is-wide-requires c κs = search needs
 
 mode-in-requires : tie.Need-mode-in-requires
 mode-in-requires c κs = search needs
@@ -19,7 +19,7 @@ returns c =
     simp (
       ← c .before .before .mode-in .ensures,
       c .before .if1 .taken,
-      ← c .before .before .before .wide-in .ensures,
+      ← c .before .before .before .is-wide .ensures,
       or-false,
     )
     (c .is-bad-count .ensures)
@@ -32,7 +32,7 @@ returns-2 c =
     simp (
       ← c .before .before .before .mode-in .ensures,
       c .before .if2 .taken,
-      ← c .before .before .before .before .wide-in .ensures,
+      ← c .before .before .before .before .is-wide .ensures,
     )
     (c .is-above-word .ensures)
 
@@ -41,4 +41,4 @@ returns-3 c = simp (← c .before .before .mode-in .ensures, ne-eqb _ _ (c .befo
 
 pub is-bad-second-spec : {M : Type 1} → statement M
 is-bad-second-spec =
-    tie.close (tie.spec wide-in-requires mode-in-requires is-bad-count-requires returns is-above-word-requires returns-2 returns-3)
+    tie.close (tie.spec is-wide-requires mode-in-requires is-bad-count-requires returns is-above-word-requires returns-2 returns-3)

@@ -39,11 +39,11 @@ returns-2 c =
       tt,
     )
 
-check-jumps-requires : tie.Need-check-jumps-requires
-check-jumps-requires c κs =
+bad-jump-requires : tie.Need-bad-jump-requires
+bad-jump-requires c κs =
     let at-pass-fields = c .before .before .before .before .before .before in
     let t = table-counted _ _ _ _ (c .before .before .pass .given .1) (at-pass-fields .pass-fields .ensures .1) in
-    (omega (arith, at-pass-fields .pass-fields .kept .1 .0), t .1)
+    (omega (arith, at-pass-fields .pass-fields .kept .1 .0, t .0), (t .1 .0, t .1 .1))
 
 enum-known-jumps : tie.Need-enum-known-jumps
 enum-known-jumps c = search needs
@@ -63,7 +63,7 @@ returns-3 c =
     let at-pass-fields = at-pass .before .before .before .before in
     let first = sym (at-pass-fields .before .before .before .first-fault .ensures) ∙ at-pass-fields .before .before .if1 .left in (
       list-jumps _ first _ (at-pass-fields .pass-fields .ensures .0) _
-          (at-pass .pass .given .1) _ (c .before .before .before .check-jumps .ensures) _ (c .before .jumps .given .1),
+          (at-pass .pass .given .1) _ (c .before .before .before .bad-jump .ensures) _ (c .before .jumps .given .1),
       tt,
     )
 
@@ -77,9 +77,9 @@ returns-4 c =
     let first = sym (at-pass-fields .before .before .before .first-fault .ensures) ∙ at-pass-fields .before .before .if1 .left in
     let table = table-counted _ _ _ _ (at-pass .pass .given .1) (at-pass-fields .pass-fields .ensures .1) in (
       list-program _ first _ (at-pass-fields .pass-fields .ensures .0) _
-          (at-pass .pass .given .1) _ (c .before .before .before .check-jumps .ensures) _
+          (at-pass .pass .given .1) _ (c .before .before .before .bad-jump .ensures) _
           (c .short-at .ensures .0) (c .before .enum-told2 .given .1),
-      (table .0, (c .short-at .ensures .1, table .1)),
+      (table .0, (c .short-at .ensures .1, table .1 .0)),
     )
 
 pub check-list-spec : {M : Type 1} → statement M
@@ -94,7 +94,7 @@ check-list-spec =
     refusal-in-requires
     same-length
     returns-2
-    check-jumps-requires
+    bad-jump-requires
     enum-known-jumps
     enum-told-2
     short-at-requires

@@ -1,30 +1,60 @@
--- `field_at` is `fieldOf`: an offset past the end is refusal 1, a fault of the head refuses, else the body answers.
+-- `field_at` is `fieldOf`: at each refusal the checks before a place failed and the one there holds; else the tag decides.
 use borrow.Author.Needs.{needs}
-use Rattle.listfile.proofs.FieldLaws.{field-past, field-refused, field-body}
+use borrow.Author.Tests.{lt-ltb, le-ltb, le-leb}
+use Prim.Native.Nat.{_+_}
+use mathlib.Core.Path.{_∙_}
+use native.Mathlib.Omega.{arith}
+use lib.ListN.{length}
+use Rattle.listfile.specs.Fields.{nextField}
+use Rattle.listfile.proofs.FieldLaws.{field-refused, field-inside}
 use Rattle.listfile.proofs.field.field_at.Statement.{statement}
 use Rattle.listfile.proofs.field.field_at.Tie as tie
 
 returns : tie.Need-returns
-returns c = field-past _ _ _ (c .if1 .taken)
+returns c =
+    let a = c .before .before .args in
+    field-refused (a .list .now) (a .at) (a .count) 0 (lt-ltb (length (a .list .now)) (a .at + 3) (omega arith)) (λ e. omega arith)
 
-head-fault-requires : tie.Need-head-fault-requires
-head-fault-requires c κs = search needs
+add-if2 : tie.Need-add-if2
+add-if2 c = search needs
 
 returns-2 : tie.Need-returns-2
-returns-2 c = field-refused _ _ _ _ (c .before .head-fault .ensures) (c .if2 .taken)
+returns-2 c = field-refused _ _ _ 0 (lt-ltb _ _ (c .if2 .taken)) (λ e. omega arith)
 
-tag-at-requires : tie.Need-tag-at-requires
-tag-at-requires c κs = search needs
+next-place-requires : tie.Need-next-place-requires
+next-place-requires c κs = search needs
+
+returns-3 : tie.Need-returns-3
+returns-3 c =
+    let a = c .before .before .before .before .before .args in
+    field-refused (a .list .now) (a .at) (a .count) 1
+    (le-ltb (length (a .list .now)) (a .at + 3) (omega arith), lt-ltb (length (a .list .now)) (nextField (a .list .now) (a .at)) (omega arith))
+    (λ e. omega arith)
+
+returns-4 : tie.Need-returns-4
+returns-4 c =
+    let a = c .before .before .before .before .before .before .args in
+    field-refused (a .list .now) (a .at) (a .count) 2 (
+      le-ltb (length (a .list .now)) (a .at + 3) (omega arith),
+      (le-ltb (length (a .list .now)) (nextField (a .list .now) (a .at)) (omega arith), le-leb 4096 (a .count) (omega arith)),
+    )
+    (λ e. omega arith)
 
 body-at-requires : tie.Need-body-at-requires
 body-at-requires c κs = search needs
 
-returns-3 : tie.Need-returns-3
-returns-3 c =
-    field-body _ _ _ _ (c .before .before .before .head-fault .ensures) (c .before .before .if2 .left) _
-    (c .before .tag-at .ensures) _ (c .body-at .ensures)
+returns-5 : tie.Need-returns-5
+returns-5 c = c .body-at .ensures ∙ field-inside _ _ _ (omega arith) (c .before .if4 .left)
 
 pub field-at-spec : {M : Type 1} → statement M
 field-at-spec =
     tie.close
-    (tie.spec returns head-fault-requires returns-2 tag-at-requires body-at-requires returns-3)
+    (tie.spec
+    returns
+    add-if2
+    returns-2
+    next-place-requires
+    returns-3
+    returns-4
+    body-at-requires
+    returns-5)

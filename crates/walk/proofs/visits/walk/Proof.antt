@@ -2,9 +2,9 @@
 -- 2^48 to W and 2^35 to a mark. The measure is the visits left.
 use borrow.Author.Needs.{needs}
 use Prim.Native.Nat.{_-_, _*_, _≤_}
-use mathlib.Core.Path.{_≡_, refl, sym, _∙_}
+use mathlib.Core.Path.{_≡_, refl, sym, _∙_, subst}
 use native.Mathlib.Omega.{arith}
-use Rattle.listfile.specs.model.Table.{firstFields}
+use Rattle.listfile.specs.model.Table.{firstFields, FieldPassed}
 use Rattle.walk.specs.Walk.{firstSpot, walkFrom}
 use Rattle.walk.proofs.SumLaws.{turn-grows, words-few}
 use Rattle.walk.proofs.TableFields.{field-past, field-here}
@@ -33,23 +33,22 @@ returns c =
     walk-lost _ _
     (c .before .before .loop .inv .0 ∙ ahead-past _ _ _ _ _ (omega arith) (field-past _ _ _ (c .if1 .taken)))
 
-mul-instruction-at : tie.Need-mul-instruction-at Inv-loop μ-loop
-mul-instruction-at c = omega arith
+mul-turn-at : tie.Need-mul-turn-at Inv-loop μ-loop
+mul-turn-at c = omega arith
 
-shared-slice-read-instruction-at : tie.Need-shared-slice-read-instruction-at Inv-loop μ-loop
-shared-slice-read-instruction-at c = omega (arith, c .before .before .before .before .before .before .before .pre .0)
+shared-slice-read-turn-at : tie.Need-shared-slice-read-turn-at Inv-loop μ-loop
+shared-slice-read-turn-at c = omega (arith, c .before .before .before .before .before .before .before .pre .0)
 
-instruction-at-requires : tie.Need-instruction-at-requires Inv-loop μ-loop
-instruction-at-requires c κs = search needs
-
-turn-of-requires : tie.Need-turn-of-requires Inv-loop μ-loop
-turn-of-requires c κs = (
-  c .before .before .before .before .before .before .before .before .pre .1 .1 .0,
-  (
-    words-few _ _ _ (c .instruction-at .ensures),
-    (omega arith, record { worst = omega arith; incoming = omega arith; outgoing = omega arith }),
-  ),
-)
+turn-at-requires : tie.Need-turn-at-requires Inv-loop μ-loop
+turn-at-requires c κs =
+    let at-start = c .before .before .before .before .before .before .before in
+    let right = at-start .pre .1 .1 .1 in (
+      at-start .pre .1 .1 .0,
+      (
+        subst (FieldPassed _) (sym (right .entry _ (c .before .if1 .left))) (right .passed _ (c .before .if1 .left)),
+        (omega arith, record { worst = omega arith; incoming = omega arith; outgoing = omega arith }),
+      ),
+    )
 
 enum-known-turn : tie.Need-enum-known-turn Inv-loop μ-loop
 enum-known-turn c = search needs
@@ -59,11 +58,10 @@ enum-told c = search needs
 
 returns-2 : tie.Need-returns-2 Inv-loop μ-loop
 returns-2 c =
-    let at-if1 = c .before .before .before .before .before in
+    let at-if1 = c .before .before .before .before in
     let at-start = at-if1 .before .before .before .before .before .before in
-    let field = field-here _ _ _ _ _ _ (at-if1 .if1 .left) (at-start .pre .1 .1 .1) refl
-    (c .before .before .before .instruction-at .ensures) in
-    let stopped = sym (c .before .before .turn-of .ensures) ∙ c .enum-told .given .1 in
+    let field = field-here _ _ _ _ _ _ (at-if1 .if1 .left) (at-start .pre .1 .1 .1) refl refl in
+    let stopped = sym (c .before .before .turn-at .ensures) ∙ c .enum-told .given .1 in
     walk-halted _ _ _ (at-if1 .before .before .loop .inv .0 ∙ ahead-halt _ _ _ _ _ field _ (omega arith) stopped)
     (record { worst = omega arith; incoming = omega arith; outgoing = omega arith })
 
@@ -75,15 +73,14 @@ loop-less c = omega arith
 
 loop-again : tie.Need-loop-again Inv-loop μ-loop
 loop-again c =
-    let at-instruction-at = c .before .before .before .before in
-    let at-loop = at-instruction-at .before .before .before .before in
+    let at-if1 = c .before .before .before .before .before in
+    let at-loop = at-if1 .before .before in
+    let at-start = at-loop .before .before .before .before in
     let i = at-loop .loop .inv in
-    let field = field-here _ _ _ _ _ _ (at-instruction-at .before .before .if1 .left)
-    (at-loop .before .before .before .before .pre .1 .1 .1) refl (at-instruction-at .instruction-at .ensures) in
-    let turn = sym (c .before .before .before .turn-of .ensures) ∙ c .before .turn .given .1 in
-    let grown = turn-grows _ _ _ _ _ _ (at-loop .before .before .before .before .pre .1 .1 .0)
-    (words-few _ _ _ (at-instruction-at .instruction-at .ensures)) turn in (
-      i .0 ∙ ahead-turn _ _ _ _ _ field _ _ _ _ (at-instruction-at .before .before .before .loop-test .taken) turn,
+    let field = field-here _ _ _ _ _ _ (at-if1 .if1 .left) (at-start .pre .1 .1 .1) refl refl in
+    let turn = sym (c .before .before .before .turn-at .ensures) ∙ c .before .turn .given .1 in
+    let grown = turn-grows _ _ _ _ _ _ (at-start .pre .1 .1 .0) (words-few _ _ _ refl) turn in (
+      i .0 ∙ ahead-turn _ _ _ _ _ field _ _ _ _ (at-if1 .before .loop-test .taken) turn,
       omega arith,
       omega arith,
       omega arith,
@@ -102,10 +99,9 @@ walk-spec =
     first-spot-requires
     loop-holds
     returns
-    mul-instruction-at
-    shared-slice-read-instruction-at
-    instruction-at-requires
-    turn-of-requires
+    mul-turn-at
+    shared-slice-read-turn-at
+    turn-at-requires
     enum-known-turn
     enum-told
     returns-2
