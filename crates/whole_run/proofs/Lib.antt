@@ -10,3 +10,4 @@ pub mod CleanRecord
 pub mod VisitTurn
 pub mod QuietTurn
 pub mod WholeRun
+pub mod SeveralReplies

@@ -2,6 +2,7 @@
 pub mod clean;
 pub mod quiet;
 pub mod row;
+pub mod several;
 pub mod visits;
 
 use crate::visits::visit_replies;
@@ -14,6 +15,7 @@ pub use quiet::Effect;
 pub use quiet::Rules;
 use reply::Record;
 pub use row::is_row_formed;
+pub use several::steps;
 pub use visits::Arrived;
 use walk::Preparation;
 ghost use mathlib.Core.Path.{_≡_};
