@@ -1,1 +1,2 @@
 pub mod TooWide
+pub mod RecordAgain

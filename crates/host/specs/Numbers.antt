@@ -1,7 +1,7 @@
--- The calls by numbers, as a host in C is given them (document 01, "A host in C calls admission and the whole run"; start and step beside
--- them are ours). A record is its numbers in document 01's order. Admission's numbers are `numbersOf` of the crate walk.
+-- The calls by numbers, as a host in C is given them (document 01, "A host in C calls admission and the whole run"; start, step and several
+-- replies are ours beside them). A record is its thirteen numbers in document 01's order. Admission's numbers are `numbersOf` of the crate walk.
 use Prim.Native.Nat.{ℕ}
-use mathlib.Core.Bool.{Bool, true, false, not, _&&_}
+use mathlib.Core.Bool.{Bool, not, _&&_}
 use mathlib.Core.List.{List, [], _∷_}
 use mathlib.Core.Option.{Option, none, some}
 use lib.Dec.{leb, eqb}
@@ -9,44 +9,33 @@ use lib.ListN.{length, getD}
 use Rattle.base.specs.Checks.{if_then_else_}
 use Rattle.base.specs.declared.Refusal.{Refusal}
 use Rattle.walk.specs.Admission.{Prepared, unfit, ready, prepare}
-use Rattle.reply.specs.Effect.{stateOf, zeroRecord}
+use Rattle.reply.specs.Effect.{State, stateOf}
 use Rattle.reply.specs.declared.records.Record.{Record}
-use Rattle.calls.specs.Calls.{refusal, recordNumbers, noOperation, Called, startOf, stepOf}
+use Rattle.calls.specs.Calls.{refusal, recordNumbers, noOperation, Called, Stepping, startOf, stepOf, stepsOf}
 use Rattle.calls.specs.declared.operations.Operation.{Operation}
 use Rattle.calls.specs.declared.Ran.{Ran}
 
--- what a call by numbers leaves: its answer, the record's numbers, and both buffers
-pub record Leaving : Type 0 where
-  pub answer : List ℕ
-  pub run : List ℕ
-  pub incoming : List ℕ
-  pub outgoing : List ℕ
+-- Answers ------------------------------------------------------------------------------------------------------------------
 
--- The whole run: number, place, the replies taken, then the record
+-- the whole run: number, place, the replies taken, then the record
 abbrev pub runNumbers : Ran → List ℕ
 runNumbers r = r .refusal .number ∷ r .refusal .place ∷ r .taken ∷ recordNumbers (r .run)
 
--- Start and step: number and place, then "the operation wanted next: crate, N, A, F and data" ----------------------------
-
+-- "the operation wanted next: crate, N, A, F and data"
 abbrev pub wantedNumbers : Operation → List ℕ
 wantedNumbers o = o .«crate_number» ∷ o .station ∷ o .subaddress ∷ o .function ∷ o .word ∷ []
 
+-- start and step: number, place, the operation wanted
 abbrev pub callNumbers : Refusal → Operation → List ℕ
 callNumbers r o = r .number ∷ r .place ∷ wantedNumbers o
 
-abbrev pub started : Called → Leaving
-started c = record {
-  answer = callNumbers (c .refusal) (c .wanted);
-  run = recordNumbers (c .state .run);
-  incoming = c .state .incoming;
-  outgoing = c .state .outgoing;
-}
+-- several replies: number, place, the replies taken, the operation wanted
+abbrev pub stepsNumbers : Refusal → ℕ → Operation → List ℕ
+stepsNumbers r taken o = r .number ∷ r .place ∷ taken ∷ wantedNumbers o
 
-abbrev pub startNumbers : List ℕ → List ℕ → List ℕ → Leaving
-startNumbers list incoming outgoing = started (startOf list incoming outgoing)
+-- A record from its numbers ------------------------------------------------------------------------------------------------
 
--- The record of thirteen numbers: ended where the first is not 0 ----------------------------------------------------------
-
+-- a first number other than 0 is that of a record that has ended
 abbrev pub endedIn : List ℕ → Bool
 endedIn n = not (eqb (getD n 0 0) 0)
 
@@ -71,42 +60,65 @@ recordWith n = record {
 abbrev pub recordIn : List ℕ → Option Record
 recordIn n = if isNarrow n then some (recordWith n) else none
 
--- Step --------------------------------------------------------------------------------------------------------------------
+-- What a call leaves -------------------------------------------------------------------------------------------------------
 
--- "Record and buffers keep their contents": the numbers given, where the call is refused
-abbrev pub runAfter : List ℕ → Refusal → Record → List ℕ
-runAfter given r run = if eqb (r .number) 0 then recordNumbers run else given
+-- its answer, the record's numbers, and both buffers
+pub record Leaving : Type 0 where
+  pub answer : List ℕ
+  pub run : List ℕ
+  pub incoming : List ℕ
+  pub outgoing : List ℕ
 
-abbrev pub stepped : List ℕ → Called → Leaving
-stepped given c = record {
+abbrev pub started : Called → Leaving
+started c = record {
   answer = callNumbers (c .refusal) (c .wanted);
-  run = runAfter given (c .refusal) (c .state .run);
+  run = recordNumbers (c .state .run);
   incoming = c .state .incoming;
   outgoing = c .state .outgoing;
 }
 
--- the refusal of numbers that are no record's: they don't fit. "24, 23"
+abbrev pub startByNumbers : List ℕ → List ℕ → List ℕ → Leaving
+startByNumbers list incoming outgoing = started (startOf list incoming outgoing)
+
+-- a call with a record given by its numbers; "Record and buffers keep their contents": refused, it leaves the numbers as they are
+abbrev pub leftBy : List ℕ → List ℕ → Refusal → State → Leaving
+leftBy given answer r s = record {
+  answer = answer;
+  run = if eqb (r .number) 0 then recordNumbers (s .run) else given;
+  incoming = s .incoming;
+  outgoing = s .outgoing;
+}
+
+abbrev pub refusedBy : List ℕ → List ℕ → List ℕ → List ℕ → Leaving
+refusedBy given answer incoming outgoing = record { answer = answer; run = given; incoming = incoming; outgoing = outgoing }
+
+-- the refusal of numbers that are no record's, which don't fit: "24, 23"
 abbrev pub noRecord : Prepared → Bool → Refusal
 noRecord (unfit r) isEnded = r
 noRecord (ready p) isEnded = if isEnded then refusal 24 else refusal 23
 
-abbrev pub refusedNumbers : Refusal → List ℕ → List ℕ → List ℕ → Leaving
-refusedNumbers r given incoming outgoing =
-    record { answer = callNumbers r noOperation; run = given; incoming = incoming; outgoing = outgoing }
+-- A step -------------------------------------------------------------------------------------------------------------------
+
+abbrev pub stepped : List ℕ → Called → Leaving
+stepped given c = leftBy given (callNumbers (c .refusal) (c .wanted)) (c .refusal) (c .state)
 
 abbrev pub stepWith : Option Record → List ℕ → List ℕ → List ℕ → List ℕ → List ℕ → Leaving
 stepWith none list given incoming outgoing reply =
-    refusedNumbers (noRecord (prepare list (length incoming) (length outgoing)) (endedIn given)) given incoming outgoing
+    refusedBy given (callNumbers (noRecord (prepare list (length incoming) (length outgoing)) (endedIn given)) noOperation) incoming outgoing
 stepWith (some r) list given incoming outgoing reply = stepped given (stepOf list (stateOf r incoming outgoing) reply)
 
-unfoldable pub stepNumbers : List ℕ → List ℕ → List ℕ → List ℕ → List ℕ → Leaving
-stepNumbers list given incoming outgoing reply = stepWith (recordIn given) list given incoming outgoing reply
+unfoldable pub stepByNumbers : List ℕ → List ℕ → List ℕ → List ℕ → List ℕ → Leaving
+stepByNumbers list given incoming outgoing reply = stepWith (recordIn given) list given incoming outgoing reply
 
--- As code does it ----------------------------------------------------------------------------------------------------------
+-- Several replies ----------------------------------------------------------------------------------------------------------
 
--- a record that fits no list, with the same `ended`, stands for numbers that are no record's
-abbrev pub recordOr : List ℕ → Record
-recordOr n = if isNarrow n then recordWith n else zeroRecord (endedIn n)
+abbrev pub severalStepped : List ℕ → Stepping → Leaving
+severalStepped given x = leftBy given (stepsNumbers (x .refusal) (x .taken) (x .wanted)) (x .refusal) (x .state)
 
-abbrev pub numbersAfter : List ℕ → Refusal → Record → List ℕ
-numbersAfter given r run = if isNarrow given && eqb (r .number) 0 then recordNumbers run else given
+abbrev pub stepsWith : Option Record → List ℕ → List ℕ → List ℕ → List ℕ → List ℕ → Leaving
+stepsWith none list given incoming outgoing row =
+    refusedBy given (stepsNumbers (noRecord (prepare list (length incoming) (length outgoing)) (endedIn given)) 0 noOperation) incoming outgoing
+stepsWith (some r) list given incoming outgoing row = severalStepped given (stepsOf list (stateOf r incoming outgoing) row)
+
+unfoldable pub stepsByNumbers : List ℕ → List ℕ → List ℕ → List ℕ → List ℕ → Leaving
+stepsByNumbers list given incoming outgoing row = stepsWith (recordIn given) list given incoming outgoing row

@@ -11,7 +11,8 @@ use walk::Spot;
 ghost use mathlib.Core.Path.{_≡_};
 ghost use Rattle.calls.specs.Calls.{numberOf, recordNumbers};
 ghost use Rattle.walk.specs.Admission.{numbersOf};
-ghost use Rattle.host.specs.Numbers.{callNumbers, runNumbers, isNarrow, endedIn, recordOr, numbersAfter};
+ghost use Rattle.host.specs.Numbers.{runNumbers, callNumbers, stepsNumbers, isNarrow};
+ghost use Rattle.host.specs.model.Given.{recordOr, numbersAfter};
 
 pub fn admission_numbers(a: Admission) -> [u64; 5]
     ensures { λ r. ⌜ r ≡ numbersOf a ⌝ }
@@ -92,6 +93,21 @@ pub fn call_numbers(refusal: Refusal, wanted: Operation) -> [u64; 7]
     ]
 }
 
+pub fn steps_numbers(refusal: Refusal, taken: usize, wanted: Operation) -> [u64; 8]
+    ensures { λ n. ⌜ n ≡ stepsNumbers refusal taken wanted ⌝ }
+{
+    [
+        refusal.number as u64,
+        refusal.place as u64,
+        taken as u64,
+        wanted.crate_number as u64,
+        wanted.station as u64,
+        wanted.subaddress as u64,
+        wanted.function as u64,
+        wanted.word as u64,
+    ]
+}
+
 // Whether each of a record's numbers fits its part.
 pub fn is_narrow(n: [u64; 13]) -> bool
     ensures { λ b. ⌜ b ≡ isNarrow n ⌝ }
@@ -132,7 +148,7 @@ pub fn record_of(n: [u64; 13]) -> Record
     }
 }
 
-// A record's numbers after a step: those given where it was refused.
+// A record's numbers after a call: those given where it was refused.
 pub fn numbers_after(given: [u64; 13], refusal: Refusal, run: Record) -> [u64; 13]
     ensures { λ n. ⌜ n ≡ numbersAfter given refusal run ⌝ }
 {

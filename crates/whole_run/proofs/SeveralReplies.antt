@@ -1,14 +1,13 @@
 -- Several replies from a record on, in the order of the code's tests: each refusal, and the row's replies taken. A record that fits is left
 -- ended or fitting by every reply, so that the steps are the replies taken and the operation wanted is the table's.
 use Prim.Native.Nat.{ℕ, _+_, _/_}
-use mathlib.Core.Path.{_≡_, refl, sym, ap, _∙_, subst}
+use mathlib.Core.Path.{_≡_, sym, ap, _∙_, subst}
 use mathlib.Core.Logic.{inl, inr}
-use mathlib.Core.Bool.{true, false, true≢false}
+use mathlib.Core.Bool.{true, false}
 use mathlib.Core.List.{List, [], _∷_}
 use lib.ListN.{length}
 use Rattle.base.proofs.Tests.{on}
 use Rattle.base.specs.declared.Refusal.{Refusal}
-use Rattle.camac.specs.declared.words.Command.{Command}
 use Rattle.listfile.specs.declared.check.Sizes.{Sizes}
 use Rattle.walk.specs.Admission.{Plan, Prepared, unfit, ready, prepare}
 use Rattle.walk.specs.model.Sums.{planBy, preparedBy, refusalIn}
@@ -19,7 +18,7 @@ use Rattle.reply.specs.Replies.{repliesIn, allFormed}
 use Rattle.reply.specs.Effect.{State, stateOf}
 use Rattle.reply.specs.declared.records.Record.{Record}
 use Rattle.calls.specs.Fit.{fits}
-use Rattle.calls.specs.Calls.{notRefused, refusal, takeAt, wantedOf, RunThrough, Stepping, refusedSteps, takenSteps, stepsOver, stepsPrepared, stepsOf, steppedOf, Steps}
+use Rattle.calls.specs.Calls.{notRefused, refusal, takeAt, RunThrough, Stepping, refusedSteps, takenSteps, stepsOver, stepsPrepared, stepsOf, steppedOf, Steps}
 use Rattle.calls.specs.declared.Stepped.{Stepped}
 use Rattle.calls.specs.declared.operations.Operation.{Operation}
 use Rattle.worst_count.proofs.Admitted.{SoundPlan}

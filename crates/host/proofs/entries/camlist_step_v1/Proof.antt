@@ -25,8 +25,8 @@ returns : tie.Need-returns
 returns c =
     let at-step = c .before .before .before .before in
     let start = at-step .before .before .before .before .before .before .before .before in
-    let all = step-leaves (start .args .list .now) (start .args .«record» .now) (start .args .incoming .now) (start .args .outgoing .now)
-    (start .args .reply .now) _ _ _ _ _ _ (at-step .before .before .record-of .ensures) (at-step .step .ensures) (c .call-numbers .ensures)
+    let all = step-leaves (start .args .list .now) (start .args .«record» .now) (start .args .incoming .now) (start .args .outgoing .now) _
+    (at-step .before .before .record-of .ensures) _ _ _ _ (start .args .reply .now) _ (at-step .step .ensures) (c .call-numbers .ensures)
     (c .before .numbers-after .ensures) in (
       ap (λ (l : Leaving). l .answer) all,
       (ap (λ (l : Leaving). l .run) all, (ap (λ (l : Leaving). l .incoming) all, ap (λ (l : Leaving). l .outgoing) all)),

@@ -5,7 +5,6 @@ use mathlib.Core.Logic.{inr}
 use mathlib.Core.Bool.{true}
 use borrow.Author.Tests.{not-true, not-false}
 use Rattle.calls.specs.Calls.{notRefused}
-use Rattle.calls.specs.declared.Stepped.{Stepped}
 use Rattle.calls.specs.declared.operations.Operation.{Operation}
 use Rattle.step.proofs.PlanLaws.{prepared-planned}
 use Rattle.step.proofs.Search.{unfit-by, alive-by}
