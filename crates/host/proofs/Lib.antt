@@ -1,2 +1,3 @@
 pub mod TooWide
 pub mod RecordAgain
+pub mod OneReply
