@@ -1,69 +1,109 @@
 /*
- * The crate list engine for hosts in C and C++: admission of a list, and a whole run over a row of replies. Lists, replies, packing,
- * status and refusals are those of document 01, "The crate list engine". Link libhost.a, which `rt staticlib host` makes.
+ * The crate list engine for hosts in C and C++. Lists, replies, packing, status and refusals are those of document 01, "The crate list engine".
+ * Link libhost.a, which `rt staticlib host` makes for x86-64 Linux; every function that is declared and not defined here is proved.
  *
- * Buffers. Null is fine for a buffer whose length is 0. `incoming` and `answer` are written and must overlap no other argument;
- * the others are only read and may overlap each other. Nothing is kept between calls, so that threads may call at once.
+ * Which call. camlist_admit says whether a list is well formed and what it can need. A host that drives a crate calls camlist_start, makes the
+ * operation that its answer wants, gives the reply to camlist_step, and so on until the record has ended. A host whose replies come many at a
+ * time (an adapter's FIFO) gives them to camlist_steps, which goes on from a record as camlist_step does. camlist_run is start and all replies in
+ * one call: it begins at the list's start each time, and camlist_step goes on from the record in its answer.
  *
- * Answers. `answer` is an array of exactly the named size. Later versions add numbers behind these: name the size by its constant and
- * compile with the header of the library that you link.
+ * Cost. Every call reads the whole list and follows its walk anew: some 9,000 instructions for a short list, up to 0.6 million for 4,096
+ * instructions. For many replies prefer camlist_steps or camlist_run, which read it once and take some 20 to 300 instructions a reply.
+ *
+ * Arguments. A slice is a pointer and its length in bytes; NULL is fine where the length is 0. Byte slices need no alignment, arrays of uint64_t
+ * that of uint64_t; arrays may not be NULL. What a call writes (`incoming`, `record`, `answer`, `name`) overlaps no other argument; slices that
+ * are only read may overlap each other. Nothing is kept between calls, so that threads may call at once. A call takes up to 10 KiB of stack, never
+ * allocates, never blocks and always returns: no list, record or reply, however wrong, makes it do anything but refuse.
+ *
+ * Versions. The names below stand for symbols with the version in them: an object that was compiled with the header of another version does
+ * not link. Name the sizes of arrays by their constants.
  */
 #ifndef CAMLIST_H
 #define CAMLIST_H
 
 #include <stddef.h>
 #include <stdint.h>
+#include <string.h>
 
 #ifdef __cplusplus
 extern "C" {
 #endif
 
-/* The numbers of camlist_admit's answer. After a refusal those behind the place are 0. */
-#define CAMLIST_ADMIT_NUMBER 0   /* 0 admitted, else the refusal */
-#define CAMLIST_ADMIT_PLACE 1    /* offset of the refused field's first byte, or 0 */
+#define CAMLIST_VERSION 1
+
+#define camlist_admit camlist_admit_v1
+#define camlist_start camlist_start_v1
+#define camlist_step camlist_step_v1
+#define camlist_steps camlist_steps_v1
+#define camlist_run camlist_run_v1
+#define camlist_code_name camlist_code_name_v1
+
+/* Every answer begins with these two. After a refusal the numbers behind them are 0, but for a refused run's record, which has ended. */
+#define CAMLIST_NUMBER 0 /* 0 not refused, else the refusal */
+#define CAMLIST_PLACE 1  /* offset of the refused field's first byte, or 0 */
+
+/* The numbers of camlist_admit's answer. */
 #define CAMLIST_ADMIT_WORST 2    /* W, the most operations that a run can make */
 #define CAMLIST_ADMIT_INCOMING 3 /* B, the incoming bytes that a full run stores */
 #define CAMLIST_ADMIT_OUTGOING 4 /* O, the outgoing bytes that a full run takes */
 #define CAMLIST_ADMIT_NUMBERS 5
 
-/* The numbers of camlist_run's answer; from CAMLIST_RUN_ENDED on they are the record. After a refusal those behind the place are 0,
-   but for CAMLIST_RUN_ENDED, which is 1. */
-#define CAMLIST_RUN_NUMBER 0         /* 0 not refused, else the refusal */
-#define CAMLIST_RUN_PLACE 1          /* as in admission */
-#define CAMLIST_RUN_TAKEN 2          /* replies taken; those past the run's end are not */
-#define CAMLIST_RUN_ENDED 3          /* 1 ended, 0 waiting for a reply */
-#define CAMLIST_RUN_INSTRUCTION 4    /* the instruction that waits, or that ended the run */
-#define CAMLIST_RUN_WORDS_LEFT 5     /* of that instruction; 0 after the end, as the next three */
-#define CAMLIST_RUN_TRIES 6          /* made in vain for the current word, in repeat */
-#define CAMLIST_RUN_N 7              /* current station */
-#define CAMLIST_RUN_A 8              /* current subaddress */
-#define CAMLIST_RUN_INCOMING_MARK 9  /* incoming bytes used so far */
-#define CAMLIST_RUN_OUTGOING_MARK 10 /* outgoing bytes used so far */
-#define CAMLIST_RUN_OPERATIONS 11    /* operations made */
-#define CAMLIST_RUN_STATUS 12        /* CAMLIST_STATUS_*, and the code in bits 31 to 28 */
-#define CAMLIST_RUN_NOTE_BUFFER 13   /* where the last moved word lies: 0 incoming, 1 outgoing, */
-#define CAMLIST_RUN_NOTE_OFFSET 14   /* its offset there */
-#define CAMLIST_RUN_NOTE_LENGTH 15   /* and its length; 0 while none was moved */
+/* The numbers of the answers of camlist_start and camlist_step: the operation wanted next. All five are 0 once the run has ended. */
+#define CAMLIST_CALL_CRATE 2
+#define CAMLIST_CALL_N 3 /* station */
+#define CAMLIST_CALL_A 4 /* subaddress */
+#define CAMLIST_CALL_F 5 /* function: with its 8-bit set control, else a write where its 16-bit is set, else a read */
+#define CAMLIST_CALL_DATA 6
+#define CAMLIST_CALL_NUMBERS 7
+
+/* The numbers of camlist_steps's answer. */
+#define CAMLIST_STEPS_TAKEN 2 /* replies taken; those past the run's end are not */
+#define CAMLIST_STEPS_CRATE 3 /* the operation wanted next, as above */
+#define CAMLIST_STEPS_N 4
+#define CAMLIST_STEPS_A 5
+#define CAMLIST_STEPS_F 6
+#define CAMLIST_STEPS_DATA 7
+#define CAMLIST_STEPS_NUMBERS 8
+
+/* The numbers of camlist_run's answer. */
+#define CAMLIST_RUN_TAKEN 2  /* as of camlist_steps */
+#define CAMLIST_RUN_RECORD 3 /* from here on the record, which camlist_step takes: answer + CAMLIST_RUN_RECORD */
 #define CAMLIST_RUN_NUMBERS 16
 
-/* Refusals. 1 to 10 have the place of their field, the others place 0. */
+/* The numbers of a record: the state of a run. A host keeps them between calls, and need not look at them. */
+#define CAMLIST_RECORD_ENDED 0         /* 1 ended, 0 waiting for a reply */
+#define CAMLIST_RECORD_INSTRUCTION 1   /* the instruction that waits, or that ended the run */
+#define CAMLIST_RECORD_WORDS_LEFT 2    /* of that instruction; 0 after the end, as the next three */
+#define CAMLIST_RECORD_TRIES 3         /* made in vain for the current word, in repeat */
+#define CAMLIST_RECORD_N 4             /* current station */
+#define CAMLIST_RECORD_A 5             /* current subaddress */
+#define CAMLIST_RECORD_INCOMING_MARK 6 /* incoming bytes used so far */
+#define CAMLIST_RECORD_OUTGOING_MARK 7 /* outgoing bytes used so far */
+#define CAMLIST_RECORD_OPERATIONS 8    /* operations made */
+#define CAMLIST_RECORD_STATUS 9        /* CAMLIST_STATUS_*, and the code in bits 31 to 28 */
+#define CAMLIST_RECORD_NOTE_BUFFER 10  /* where the last moved word lies: 0 incoming, 1 outgoing, */
+#define CAMLIST_RECORD_NOTE_OFFSET 11  /* its offset there */
+#define CAMLIST_RECORD_NOTE_LENGTH 12  /* and its length; 0 while none was moved */
+#define CAMLIST_RECORD_NUMBERS 13
+
+/* Refusals, in the order in which they are judged: fields front to back, each by 1 to 9, then the others. 1 to 10 have the place of their field. */
 #define CAMLIST_NOT_REFUSED 0
-#define CAMLIST_REFUSED_CUT 1          /* a field's head or body runs past the end of the list */
-#define CAMLIST_REFUSED_FIRST 2        /* no field, or a first field that is not format 1 with a try limit */
-#define CAMLIST_REFUSED_TAG 3          /* unknown tag, or a second first field */
-#define CAMLIST_REFUSED_LENGTH 4       /* length wrong for its tag */
-#define CAMLIST_REFUSED_COUNT 5        /* instruction 4,097 */
-#define CAMLIST_REFUSED_ZERO_BIT 6     /* a zero bit of a CAMAC word is set */
-#define CAMLIST_REFUSED_ADDRESS 7      /* crate not 1 to 62, N not 1 to 23 or 30, or a scan at N 30 */
-#define CAMLIST_REFUSED_MODE 8         /* transfer mode 2; length not the mode's; block with control; inline not write */
-#define CAMLIST_REFUSED_SECOND 9       /* second longword: no count or no data for its word size; scan past its positions */
-#define CAMLIST_REFUSED_JUMP 10        /* a jump's target is not an instruction */
-#define CAMLIST_REFUSED_WALK 11        /* the walk repeats or passes the last field */
-#define CAMLIST_REFUSED_INCOMING 20    /* incoming buffer shorter than B */
-#define CAMLIST_REFUSED_OUTGOING 21    /* outgoing buffer shorter than O */
-#define CAMLIST_REFUSED_REPLY 22       /* a reply anywhere in the row is not well formed, or the row is not a multiple of 8 bytes */
-#define CAMLIST_REFUSED_RECORD 23      /* a record that does not fit; not from these two calls */
-#define CAMLIST_REFUSED_ENDED 24       /* a run that has ended; not from these two calls */
+#define CAMLIST_REFUSED_CUT 1           /* a field's head or body runs past the end of the list */
+#define CAMLIST_REFUSED_FIRST 2         /* no field, or a first field that is not format 1 with a try limit */
+#define CAMLIST_REFUSED_TOO_MANY 5      /* instruction 4,097 */
+#define CAMLIST_REFUSED_TAG 3           /* unknown tag, or a second first field */
+#define CAMLIST_REFUSED_LENGTH 4        /* length wrong for its tag */
+#define CAMLIST_REFUSED_ZERO_BIT 6      /* a zero bit of a CAMAC word is set */
+#define CAMLIST_REFUSED_ADDRESS 7       /* crate not 1 to 62, N not 1 to 23 or 30, or a scan at N 30 */
+#define CAMLIST_REFUSED_MODE 8          /* transfer mode 2; length not the mode's; block with control; inline not write */
+#define CAMLIST_REFUSED_COUNT_OR_DATA 9 /* a block's count, a scan past its positions, or inline data above the word size */
+#define CAMLIST_REFUSED_JUMP 10         /* a jump's target is not an instruction */
+#define CAMLIST_REFUSED_WALK 11         /* the walk repeats or passes the last field */
+#define CAMLIST_REFUSED_INCOMING 20     /* incoming buffer shorter than B */
+#define CAMLIST_REFUSED_OUTGOING 21     /* outgoing buffer shorter than O */
+#define CAMLIST_REFUSED_ENDED 24        /* the record's first number is not 0: its run has ended */
+#define CAMLIST_REFUSED_RECORD 23       /* the record does not fit the list, or one of its numbers is too wide for its part */
+#define CAMLIST_REFUSED_REPLY 22        /* a reply, or one anywhere in a row, is not well formed; or the row is no multiple of 8 bytes */
 
 /* Codes of the status: why a run ended. */
 #define CAMLIST_CODE_NO_ERROR 0x0        /* halt */
@@ -91,29 +131,223 @@ extern "C" {
 #define CAMLIST_STATUS_NO_Q 0x00010000u           /* 16: Q = 0 */
 #define CAMLIST_STATUS_ENDED 0x00000080u          /* 7 */
 
+/* The calls -------------------------------------------------------------------------------------------------------------------------------- */
+
+/* Whether the list is well formed and fits buffers of these two lengths, and what it can need at most. */
+void camlist_admit(const uint8_t *list, size_t list_len, uint64_t incoming_len, uint64_t outgoing_len,
+                   uint64_t answer[CAMLIST_ADMIT_NUMBERS]);
+
+/* Starts a run: to its first operation or its end. Refused, it leaves `incoming` as it is and a record that has ended. */
+void camlist_start(const uint8_t *list, size_t list_len, uint8_t *incoming, size_t incoming_len, const uint8_t *outgoing, size_t outgoing_len,
+                   uint64_t record[CAMLIST_RECORD_NUMBERS], uint64_t answer[CAMLIST_CALL_NUMBERS]);
+
+/* Takes one reply of 8 bytes. List and buffers are those of the start. Refused, it leaves the record and `incoming` as they are. */
+void camlist_step(const uint8_t *list, size_t list_len, uint64_t record[CAMLIST_RECORD_NUMBERS], uint8_t *incoming, size_t incoming_len,
+                  const uint8_t *outgoing, size_t outgoing_len, const uint8_t *reply, size_t reply_len,
+                  uint64_t answer[CAMLIST_CALL_NUMBERS]);
+
+/* Takes replies, 8 bytes each, until the run ends or they run out; else as camlist_step. A row of none takes none and says what is wanted. */
+void camlist_steps(const uint8_t *list, size_t list_len, uint64_t record[CAMLIST_RECORD_NUMBERS], uint8_t *incoming, size_t incoming_len,
+                   const uint8_t *outgoing, size_t outgoing_len, const uint8_t *replies, size_t replies_len,
+                   uint64_t answer[CAMLIST_STEPS_NUMBERS]);
+
+/* Starts a run and takes replies until it ends or they run out. Refused, it leaves `incoming` as it is. */
+void camlist_run(const uint8_t *list, size_t list_len, uint8_t *incoming, size_t incoming_len, const uint8_t *outgoing, size_t outgoing_len,
+                 const uint8_t *replies, size_t replies_len, uint64_t answer[CAMLIST_RUN_NUMBERS]);
+
+/* The name of a code as the driver manual has it, filled with blanks; all blanks for a number above 15. */
+#define CAMLIST_NAME_BYTES 16
+void camlist_code_name(uint64_t code, uint8_t name[CAMLIST_NAME_BYTES]);
+
+/* Texts ------------------------------------------------------------------------------------------------------------------------------------ */
+
 /* The code of a status. */
 static inline unsigned camlist_code(uint64_t status)
 {
     return (unsigned)(status >> 28) & 15u;
 }
 
-/* The name of a code, as the driver manual has it. */
-static inline const char *camlist_code_name(unsigned code)
+/* The name of a code as a string, in 17 bytes of yours. */
+static inline const char *camlist_code_text(uint64_t code, char text[CAMLIST_NAME_BYTES + 1])
 {
-    static const char *const names[16] = {
-        "NO ERROR", "ILLEGAL COMMAND", "RESERVED", "RESERVED", "SERIAL ERROR", "RESERVED", "RESERVED", "NO-Q",
-        "NO-X",     "N>23",            "STE",      "TIMEOUT",  "ADNR",         "NO SYNC",  "RESERVED", "RESERVED",
-    };
-    return names[code & 15u];
+    uint8_t name[CAMLIST_NAME_BYTES];
+    size_t length = CAMLIST_NAME_BYTES;
+
+    camlist_code_name(code, name);
+    while (length > 0 && name[length - 1] == ' ') {
+        length--;
+    }
+    memcpy(text, name, length);
+    text[length] = '\0';
+    return text;
 }
 
-/* Whether the list is well formed and fits buffers of these two lengths, and what it can need at most. */
-void camlist_admit(const uint8_t *list, size_t list_len, uint64_t incoming_len, uint64_t outgoing_len,
-                   uint64_t answer[CAMLIST_ADMIT_NUMBERS]);
+/* A refusal in words. */
+static inline const char *camlist_refusal_text(uint64_t number)
+{
+    switch (number) {
+    case CAMLIST_NOT_REFUSED: return "not refused";
+    case CAMLIST_REFUSED_CUT: return "a field runs past the end of the list";
+    case CAMLIST_REFUSED_FIRST: return "the first field is missing or wrong";
+    case CAMLIST_REFUSED_TAG: return "unknown tag, or a second first field";
+    case CAMLIST_REFUSED_LENGTH: return "length wrong for its tag";
+    case CAMLIST_REFUSED_TOO_MANY: return "more than 4,096 instructions";
+    case CAMLIST_REFUSED_ZERO_BIT: return "a bit that must be zero is set";
+    case CAMLIST_REFUSED_ADDRESS: return "no such crate or station";
+    case CAMLIST_REFUSED_MODE: return "transfer mode does not go with its length or function";
+    case CAMLIST_REFUSED_COUNT_OR_DATA: return "wrong word count or inline data";
+    case CAMLIST_REFUSED_JUMP: return "jump to no instruction";
+    case CAMLIST_REFUSED_WALK: return "the list comes to no halt";
+    case CAMLIST_REFUSED_INCOMING: return "incoming buffer too short";
+    case CAMLIST_REFUSED_OUTGOING: return "outgoing buffer too short";
+    case CAMLIST_REFUSED_REPLY: return "a reply is not well formed";
+    case CAMLIST_REFUSED_RECORD: return "the record does not fit the list";
+    case CAMLIST_REFUSED_ENDED: return "the run has ended";
+    default: return "unknown refusal";
+    }
+}
 
-/* Starts the list and takes replies, 8 bytes each, until the run ends or they run out. Refused, it writes nothing to `incoming`. */
-void camlist_run(const uint8_t *list, size_t list_len, uint8_t *incoming, size_t incoming_len, const uint8_t *outgoing,
-                 size_t outgoing_len, const uint8_t *replies, size_t replies_len, uint64_t answer[CAMLIST_RUN_NUMBERS]);
+/* Lists and rows of replies are written --------------------------------------------------------------------------------------------------- */
+
+/* Bytes of yours and how many of them are used. Each camlist_put_.. below puts its bytes behind those and returns 1, or puts nothing and returns 0:
+   where they have no room, where a part is too wide for its bits, and once one has failed. So a whole list may be put and `failed` looked at once.
+   Begin with: camlist_bytes list = {room, sizeof room, 0, 0}; then list.bytes and list.length are what the calls take. */
+typedef struct camlist_bytes {
+    uint8_t *bytes;
+    size_t room;
+    size_t length;
+    int failed;
+} camlist_bytes;
+
+/* Q-mode, word size and AD of an instruction, joined by |. Without one of the first four it is stop, without CAMLIST_16_BIT 24-bit. */
+#define CAMLIST_STOP 0x00u
+#define CAMLIST_IGNORE 0x08u
+#define CAMLIST_REPEAT 0x10u
+#define CAMLIST_SCAN 0x18u
+#define CAMLIST_16_BIT 0x02u
+#define CAMLIST_ABORT_DISABLE 0x01u
+
+/* Flags of an answer, joined by |. */
+#define CAMLIST_Q 0x01u
+#define CAMLIST_X 0x02u
+#define CAMLIST_ERR 0x04u
+#define CAMLIST_DERR 0x08u
+#define CAMLIST_TPE 0x10u
+#define CAMLIST_LPE 0x20u
+
+#define CAMLIST_REPLY_BYTES 8
+
+/* For the functions below: a field of a list, its body up to two longwords low byte first. */
+static inline int camlist_put_field(camlist_bytes *list, unsigned tag, unsigned size, uint32_t first, uint32_t second, int is_right)
+{
+    unsigned at;
+
+    if (list->failed || !is_right || list->room - list->length < 3u + size) {
+        list->failed = 1;
+        return 0;
+    }
+    list->bytes[list->length++] = (uint8_t)tag;
+    list->bytes[list->length++] = (uint8_t)size;
+    list->bytes[list->length++] = 0;
+    for (at = 0; at < size; at++) {
+        list->bytes[list->length++] = (uint8_t)((at < 4 ? first : second) >> (at % 4 * 8));
+    }
+    return 1;
+}
+
+static inline int camlist_put_camac(camlist_bytes *list, unsigned size, unsigned mode, unsigned crate, unsigned n, unsigned a, unsigned f,
+                                    unsigned options, uint32_t second, int is_right)
+{
+    uint32_t first = (uint32_t)n << 25 | (uint32_t)a << 21 | (uint32_t)f << 16 | (uint32_t)crate << 8 | mode << 5 | options;
+
+    is_right = is_right && crate < 64 && n < 32 && a < 16 && f < 32 && options < 32 && !(options & 4u);
+    return camlist_put_field(list, 0x10, size, first, second, is_right);
+}
+
+/* The first field of every list: the try limit R, 1 to 65,535. */
+static inline int camlist_put_head(camlist_bytes *list, unsigned try_limit)
+{
+    return camlist_put_field(list, 0x01, 4, 1u | (uint32_t)try_limit << 16, 0, try_limit < 65536u);
+}
+
+/* One word, read or written, or control. */
+static inline int camlist_put_single(camlist_bytes *list, unsigned crate, unsigned n, unsigned a, unsigned f, unsigned options)
+{
+    return camlist_put_camac(list, 4, 0, crate, n, a, f, options, 0, 1);
+}
+
+/* A block of words: up to 65,536 of 16 bits, 32,768 of 24. */
+static inline int camlist_put_block(camlist_bytes *list, unsigned crate, unsigned n, unsigned a, unsigned f, unsigned options, uint32_t words)
+{
+    uint32_t halfwords = options & CAMLIST_16_BIT ? words : 2u * words;
+
+    return camlist_put_camac(list, 8, 1, crate, n, a, f, options, 0u - halfwords, words <= 65536u);
+}
+
+/* A write whose data stands in the list. */
+static inline int camlist_put_inline(camlist_bytes *list, unsigned crate, unsigned n, unsigned a, unsigned f, unsigned options, uint32_t data)
+{
+    return camlist_put_camac(list, 8, 3, crate, n, a, f, options, data, 1);
+}
+
+/* On with the instruction of this number; the first behind the head is number 0. */
+static inline int camlist_put_jump(camlist_bytes *list, unsigned target)
+{
+    return camlist_put_field(list, 0x20, 2, target, 0, target < 65536u);
+}
+
+/* A longword for the incoming buffer. */
+static inline int camlist_put_literal(camlist_bytes *list, uint32_t longword)
+{
+    return camlist_put_field(list, 0x21, 4, longword, 0, 1);
+}
+
+static inline int camlist_put_halt(camlist_bytes *list)
+{
+    return camlist_put_field(list, 0x2F, 0, 0, 0, 1);
+}
+
+/* For the functions below: a reply. */
+static inline int camlist_put_reply(camlist_bytes *row, unsigned kind, unsigned flags, uint32_t data)
+{
+    uint8_t *reply;
+
+    if (row->failed || flags > 63u || data >> 24 || row->room - row->length < CAMLIST_REPLY_BYTES) {
+        row->failed = 1;
+        return 0;
+    }
+    reply = row->bytes + row->length;
+    reply[0] = (uint8_t)kind;
+    reply[1] = (uint8_t)flags;
+    reply[2] = reply[3] = reply[7] = 0;
+    reply[4] = (uint8_t)data;
+    reply[5] = (uint8_t)(data >> 8);
+    reply[6] = (uint8_t)(data >> 16);
+    row->length += CAMLIST_REPLY_BYTES;
+    return 1;
+}
+
+/* An answer with its flags and 24 bits of data. */
+static inline int camlist_put_answer(camlist_bytes *row, unsigned flags, uint32_t data)
+{
+    return camlist_put_reply(row, 0, flags, data);
+}
+
+static inline int camlist_put_timeout(camlist_bytes *row)
+{
+    return camlist_put_reply(row, 1, 0, 0);
+}
+
+/* Address not recognised. */
+static inline int camlist_put_not_recognised(camlist_bytes *row)
+{
+    return camlist_put_reply(row, 2, 0, 0);
+}
+
+static inline int camlist_put_no_sync(camlist_bytes *row)
+{
+    return camlist_put_reply(row, 3, 0, 0);
+}
 
 #ifdef __cplusplus
 }

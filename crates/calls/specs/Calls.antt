@@ -25,6 +25,7 @@ use Rattle.reply.specs.declared.records.Record.{Record}
 use Rattle.calls.specs.declared.operations.Operation.{Operation}
 use Rattle.calls.specs.declared.Yield.{Yield}
 use Rattle.calls.specs.declared.Ran.{Ran}
+use Rattle.calls.specs.declared.Stepped.{Stepped}
 use Rattle.camac.specs.declared.words.Direction.{Direction}
 use Rattle.camac.specs.declared.words.Direction.the-variants.{Incoming, Outgoing, Neither}
 
@@ -197,6 +198,47 @@ pub record Runs (through : RunThrough) (r : Ran) (incoming outgoing : List ℕ) 
   pub answer : r ≡ ranOf through
   pub incoming-bytes : incoming ≡ through .state .incoming
   pub outgoing-bytes : outgoing ≡ through .state .outgoing
+
+-- Several replies from a record on ---------------------------------------------------------------------------------------
+
+-- Ours, between document 01's step and its whole run: the steps of a row of replies, from a record on. What they leave: the refusal, the
+-- replies taken, the operation wanted next, the record and both buffers.
+pub record Stepping : Type 0 where
+  pub refusal : Refusal
+  pub taken : ℕ
+  pub wanted : Operation
+  pub state : State
+
+abbrev pub refusedSteps : Refusal → State → Stepping
+refusedSteps r s = record { refusal = r; taken = 0; wanted = noOperation; state = s }
+
+abbrev pub takenSteps : Plan → RunThrough → Stepping
+takenSteps p x = record { refusal = x .refusal; taken = x .taken; wanted = wantedOf p (x .state); state = x .state }
+
+-- 22, as of the whole run: the entire row is checked before its first reply is taken
+abbrev pub stepsRow : Plan → List ℕ → List ℕ → State → Stepping
+stepsRow p list row s =
+    if allFormed (repliesIn row) then takenSteps p (stepsOver list (repliesIn row) 0 s) else refusedSteps (refusal 22) s
+
+-- 24, 23 and 22 as of a step
+abbrev pub stepsPrepared : Prepared → List ℕ → List ℕ → State → Stepping
+stepsPrepared (unfit r) list row s = refusedSteps r s
+stepsPrepared (ready p) list row s =
+    if s .run .ended then refusedSteps (refusal 24) s
+    else if fits p (s .run) then stepsRow p list row s
+    else refusedSteps (refusal 23) s
+
+unfoldable pub stepsOf : List ℕ → State → List ℕ → Stepping
+stepsOf list s row = stepsPrepared (prepare list (length (s .incoming)) (length (s .outgoing))) list row s
+
+abbrev pub steppedOf : Stepping → Stepped
+steppedOf x = record { refusal = x .refusal; taken = x .taken; run = x .state .run; wanted = x .wanted }
+
+-- steps are answered as they are defined: their answer, and both lent buffers at their exit
+pub record Steps (stepping : Stepping) (y : Stepped) (incoming outgoing : List ℕ) : Type 0 where
+  pub answer : y ≡ steppedOf stepping
+  pub incoming-bytes : incoming ≡ stepping .state .incoming
+  pub outgoing-bytes : outgoing ≡ stepping .state .outgoing
 
 -- The last moved word ----------------------------------------------------------------------------------------------------
 

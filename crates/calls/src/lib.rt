@@ -25,3 +25,11 @@ pub struct Ran {
     pub taken: usize,
     pub run: Record,
 }
+
+// What several replies from a record on yield beside the buffers.
+pub struct Stepped {
+    pub refusal: Refusal,
+    pub taken: usize,
+    pub run: Record,
+    pub wanted: Operation,
+}

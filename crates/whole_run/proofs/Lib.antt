@@ -15,3 +15,4 @@ pub mod AnswerTurn
 pub mod VisitTurn
 pub mod RunTurn
 pub mod WholeRun
+pub mod SeveralReplies

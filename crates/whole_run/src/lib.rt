@@ -2,6 +2,7 @@
 // through the function that a step uses.
 pub mod along;
 pub mod row;
+pub mod several;
 pub mod visit;
 pub mod words;
 
@@ -17,6 +18,7 @@ use listfile::Sizes;
 use reply::Record;
 pub use row::RowRead;
 pub use row::read_row;
+pub use several::steps;
 pub use visit::Rules;
 pub use visit::Stay;
 use walk::Preparation;

@@ -2,8 +2,8 @@
 use mathlib.Core.Path.{sym, ap}
 use Rattle.walk.specs.Admission.{numbersOf}
 use borrow.Author.Needs.{needs}
-use Rattle.host.proofs.admission_numbers.Statement.{statement}
-use Rattle.host.proofs.admission_numbers.Tie as tie
+use Rattle.host.proofs.numbers.admission_numbers.Statement.{statement}
+use Rattle.host.proofs.numbers.admission_numbers.Tie as tie
 
 enum-known-a : tie.Need-enum-known-a
 enum-known-a c = search needs

@@ -1,0 +1,3 @@
+pub mod TooWide
+pub mod RecordAgain
+pub mod OneReply
