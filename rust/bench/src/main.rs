@@ -1,4 +1,4 @@
-//! Times the proved engine beside the separate build's plain fast loop: same process, same
+//! Times the proved engine beside the separate build's plain loop: same process, same
 //! inputs, in turns. `cargo run --release -p bench`.
 
 use bench::{admissions, workloads, Workload};
@@ -42,7 +42,7 @@ fn compare_runs(workload: &Workload, row: &[u8]) -> Times {
     let mut plain_incoming = vec![1; workload.incoming_len];
     let times = compare(
         || camlist::run(list, &mut proved_incoming, outgoing, row),
-        || reference::fast::run_row(list, &mut plain_incoming, outgoing, row),
+        || reference::plain::run_row(list, &mut plain_incoming, outgoing, row),
     );
     assert!(proved_incoming == plain_incoming, "the engines differ");
     times
@@ -78,7 +78,7 @@ fn main() {
     for (name, list) in admissions() {
         let times = compare(
             || camlist::admit(&list, u64::MAX, u64::MAX),
-            || reference::admit(&list, u64::MAX, u64::MAX),
+            || reference::plain::admit(&list, u64::MAX, u64::MAX),
         );
         let (proved, plain) = (times.proved * 1e6, times.plain * 1e6);
         println!("{name:<22} {proved:>8.1} {plain:>8.1} {:>7.2}", times.ratio);

@@ -8,12 +8,12 @@
 
 pub mod camrun;
 pub mod cases;
-pub mod fast;
 pub mod fit;
 pub mod host;
 pub mod list;
 pub mod names;
 pub mod packing;
+pub mod plain;
 pub mod record;
 pub mod refusal;
 pub mod reply;

@@ -59,7 +59,12 @@ fn run(proved: bool, number: usize, clean: bool, replies: usize) {
         if proved {
             black_box(camlist::run(list, &mut incoming, outgoing, row));
         } else {
-            black_box(reference::fast::run_row(list, &mut incoming, outgoing, row));
+            black_box(reference::plain::run_row(
+                list,
+                &mut incoming,
+                outgoing,
+                row,
+            ));
         }
     });
 }
@@ -70,7 +75,7 @@ fn admit(proved: bool, number: usize) {
         if proved {
             black_box(camlist::admit(list, u64::MAX, u64::MAX));
         } else {
-            let _ = black_box(reference::admit(list, u64::MAX, u64::MAX));
+            let _ = black_box(reference::plain::admit(list, u64::MAX, u64::MAX));
         }
     });
 }
