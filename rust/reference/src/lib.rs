@@ -25,5 +25,5 @@ pub mod words;
 
 pub use record::{last_moved, Note, Record};
 pub use refusal::Refusal;
-pub use run::{run_row, start, step, Answer, Operation, RunAnswer};
+pub use run::{run_row, start, step, steps, Answer, Operation, RunAnswer, StepsAnswer};
 pub use walk::{admit, Counts};

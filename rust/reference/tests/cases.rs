@@ -1,7 +1,7 @@
 //! The cases themselves: what they cover, and the plain run compared with the whole run.
 
 use reference::cases::coverage::Coverage;
-use reference::cases::{case, records, Case};
+use reference::cases::{calls, case, records, Case};
 use reference::{admit, plain, run_row, start, step, Operation, Record, RunAnswer};
 
 const SEED: u64 = 1;
@@ -43,6 +43,16 @@ fn step_cases_cover_everything() {
     let mut coverage = Coverage::of_steps();
     for number in 0..CASES {
         coverage.observe_step(&records::step_case(SEED, number));
+    }
+    println!("{}", coverage.table());
+    assert_eq!(coverage.missing(), []);
+}
+
+#[test]
+fn call_cases_cover_everything() {
+    let mut coverage = Coverage::of_calls();
+    for number in 0..CASES {
+        coverage.observe_call(&calls::call_case(SEED, number));
     }
     println!("{}", coverage.table());
     assert_eq!(coverage.missing(), []);
