@@ -38,7 +38,7 @@ pub unsafe extern "C" fn LLVMFuzzerTestOneInput(data: *const u8, size: usize) ->
 }
 
 fn compare(list: &[u8], manner: u8, row: &[u8]) {
-    let [_, _, _, b, o] = camlist::admit(list, u64::MAX, u64::MAX);
+    let [_, _, _, b, o] = camlist::ffi::admit(list, u64::MAX, u64::MAX);
     let incoming_len = buffer_length(b, manner & 7);
     let outgoing_len = buffer_length(o, manner >> 3 & 7);
     let what = format_args!("list {list:02X?}, row {row:02X?}");

@@ -41,7 +41,7 @@ fn compare_runs(workload: &Workload, row: &[u8]) -> Times {
     let mut proved_incoming = vec![1; workload.incoming_len];
     let mut plain_incoming = vec![1; workload.incoming_len];
     let times = compare(
-        || camlist::run(list, &mut proved_incoming, outgoing, row),
+        || camlist::ffi::run(list, &mut proved_incoming, outgoing, row),
         || reference::plain::run_row(list, &mut plain_incoming, outgoing, row),
     );
     assert!(proved_incoming == plain_incoming, "the engines differ");
@@ -77,7 +77,7 @@ fn main() {
     );
     for (name, list) in admissions() {
         let times = compare(
-            || camlist::admit(&list, u64::MAX, u64::MAX),
+            || camlist::ffi::admit(&list, u64::MAX, u64::MAX),
             || reference::plain::admit(&list, u64::MAX, u64::MAX),
         );
         let (proved, plain) = (times.proved * 1e6, times.plain * 1e6);

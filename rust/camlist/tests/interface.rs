@@ -1,8 +1,8 @@
 //! What the header promises a host in C: buffers, sizes of the answers, constants, and the
 //! example program.
 
-use camlist::ffi::{camlist_admit, camlist_run};
-use camlist::{ADMIT_NUMBERS, RUN_NUMBERS};
+use camlist::ffi::raw::{camlist_admit_v1, camlist_run_v1};
+use camlist::ffi::{self, ADMIT_NUMBERS, RUN_NUMBERS};
 use reference::cases::by_hand::{list, M15, M17};
 use reference::host::{admission_numbers, run_numbers};
 use reference::names::CODE_NAMES;
@@ -27,14 +27,14 @@ fn null_buffers() {
     let mut run = [7; RUN_NUMBERS];
     // SAFETY: every length is 0 but that of the list, which is valid for the calls.
     unsafe {
-        camlist_admit(null(), 0, 0, 0, &mut admitted);
+        camlist_admit_v1(null(), 0, 0, 0, &mut admitted);
         assert_eq!(admitted, admission_numbers(&[], 0, 0));
-        camlist_run(null(), 0, null_mut(), 0, null(), 0, null(), 0, &mut run);
+        camlist_run_v1(null(), 0, null_mut(), 0, null(), 0, null(), 0, &mut run);
         assert_eq!(run, run_numbers(&[], &mut [], &[], &[]));
         for text in ["2F 00 00", M15, M17] {
             let list = list(text);
             let (bytes, length) = (list.as_ptr(), list.len());
-            camlist_run(bytes, length, null_mut(), 0, null(), 0, null(), 0, &mut run);
+            camlist_run_v1(bytes, length, null_mut(), 0, null(), 0, null(), 0, &mut run);
             assert_eq!(run, run_numbers(&list, &mut [], &[], &[]));
         }
     }
@@ -49,8 +49,8 @@ fn sizes_of_the_answers() {
     // SAFETY: the list is valid for the calls; the lengths of the other buffers are 0.
     unsafe {
         let (bytes, length) = (list.as_ptr(), list.len());
-        camlist_admit(bytes, length, 8, 0, &mut admitted[1]);
-        camlist_run(
+        camlist_admit_v1(bytes, length, 8, 0, &mut admitted[1]);
+        camlist_run_v1(
             bytes,
             length,
             null_mut(),
@@ -73,7 +73,7 @@ fn sizes_of_the_answers() {
 fn any_lengths() {
     let list = list(M17);
     for length in [0, 7, 8, 1 << 32, 1 << 63, u64::MAX] {
-        let answer = camlist::admit(&list, length, u64::MAX - length);
+        let answer = ffi::admit(&list, length, u64::MAX - length);
         assert_eq!(answer, admission_numbers(&list, length, u64::MAX - length));
     }
 }

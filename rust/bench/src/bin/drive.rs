@@ -57,7 +57,7 @@ fn run(proved: bool, number: usize, clean: bool, replies: usize) {
     let row = &workload.row(clean)[..8 * replies];
     measured(&mut || {
         if proved {
-            black_box(camlist::run(list, &mut incoming, outgoing, row));
+            black_box(camlist::ffi::run(list, &mut incoming, outgoing, row));
         } else {
             black_box(reference::plain::run_row(
                 list,
@@ -73,7 +73,7 @@ fn admit(proved: bool, number: usize) {
     let list = &admissions()[number].1;
     measured(&mut || {
         if proved {
-            black_box(camlist::admit(list, u64::MAX, u64::MAX));
+            black_box(camlist::ffi::admit(list, u64::MAX, u64::MAX));
         } else {
             let _ = black_box(reference::plain::admit(list, u64::MAX, u64::MAX));
         }
