@@ -58,8 +58,9 @@ fn main() {
         "list", "answers", "replies", "proved", "plain", "ratio"
     );
     for workload in workloads() {
-        for (answers, clean) in [("clean", true), ("other", false)] {
-            let row = workload.row(clean);
+        for &answers in workload.answers {
+            let row = workload.row(answers);
+            let answers = answers.name();
             let times = compare_runs(&workload, &row);
             let replies = row.len() / 8;
             let each = |seconds: f64| seconds * 1e9 / replies as f64;
