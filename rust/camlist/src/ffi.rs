@@ -14,7 +14,7 @@ pub const RUN_NUMBERS: usize = 16;
 pub const RECORD_NUMBERS: usize = 13;
 
 /// Numbers of the answer of start and of step: number, place, crate, N, A, F, data.
-pub const STEP_NUMBERS: usize = 7;
+pub const CALL_NUMBERS: usize = 7;
 
 /// Numbers of the answer of steps: number, place, taken, crate, N, A, F, data.
 pub const STEPS_NUMBERS: usize = 8;
@@ -55,7 +55,7 @@ pub mod raw {
             outgoing: *const u8,
             outgoing_len: usize,
             record: *mut [u64; RECORD_NUMBERS],
-            answer: *mut [u64; STEP_NUMBERS],
+            answer: *mut [u64; CALL_NUMBERS],
         );
 
         pub fn camlist_step_v1(
@@ -68,7 +68,7 @@ pub mod raw {
             outgoing_len: usize,
             reply: *const u8,
             reply_len: usize,
-            answer: *mut [u64; STEP_NUMBERS],
+            answer: *mut [u64; CALL_NUMBERS],
         );
 
         pub fn camlist_steps_v1(
@@ -136,8 +136,8 @@ pub fn start(
     incoming: &mut [u8],
     outgoing: &[u8],
     record: &mut [u64; RECORD_NUMBERS],
-) -> [u64; STEP_NUMBERS] {
-    let mut answer = [0; STEP_NUMBERS];
+) -> [u64; CALL_NUMBERS] {
+    let mut answer = [0; CALL_NUMBERS];
     // SAFETY: as in `run`; the record is lent to us alone.
     unsafe {
         raw::camlist_start_v1(
@@ -161,8 +161,8 @@ pub fn step(
     incoming: &mut [u8],
     outgoing: &[u8],
     reply: &[u8],
-) -> [u64; STEP_NUMBERS] {
-    let mut answer = [0; STEP_NUMBERS];
+) -> [u64; CALL_NUMBERS] {
+    let mut answer = [0; CALL_NUMBERS];
     // SAFETY: as in `start`.
     unsafe {
         raw::camlist_step_v1(

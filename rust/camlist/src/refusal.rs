@@ -13,7 +13,7 @@ use std::fmt;
 /// assert_eq!((refusal.reason, refusal.place), (Reason::Jump, 7));
 /// assert_eq!(
 ///     refusal.to_string(),
-///     "refusal 10 at byte 7 of the list: a jump's target is not an instruction"
+///     "refusal 10 at byte 7 of the list: jump to no instruction"
 /// );
 /// ```
 #[derive(Clone, Copy, Debug, PartialEq, Eq)]
@@ -48,24 +48,41 @@ impl fmt::Display for Refusal {
 
 impl Error for Refusal {}
 
-/// The reasons, with the numbers of the header.
+/// The reasons, with the header's names, numbers and texts.
 #[derive(Clone, Copy, Debug, PartialEq, Eq, PartialOrd, Ord)]
 pub enum Reason {
+    /// A field's head or body runs past the end of the list.
     Cut = 1,
+    /// No field, or a first one that is not format 1 with a try limit.
     First = 2,
+    /// Unknown tag, or a second first field.
     Tag = 3,
+    /// Length wrong for its tag.
     Length = 4,
-    Count = 5,
+    /// Instruction 4,097.
+    TooMany = 5,
+    /// A zero bit of a CAMAC word is set.
     ZeroBit = 6,
+    /// Crate not 1 to 62, N not 1 to 23 or 30, or a scan at N 30.
     Address = 7,
+    /// Transfer mode 2; length not the mode's; block with control; inline not write.
     Mode = 8,
-    Second = 9,
+    /// A block's count, a scan past its positions, or inline data above the word size.
+    CountOrData = 9,
+    /// A jump's target is not an instruction.
     Jump = 10,
+    /// The walk repeats or passes the last field.
     Walk = 11,
+    /// Incoming buffer shorter than B.
     Incoming = 20,
+    /// Outgoing buffer shorter than O.
     Outgoing = 21,
+    /// A reply, or one anywhere in a row, is not well formed; or the row is no multiple of 8
+    /// bytes.
     Reply = 22,
+    /// The record does not fit the list, or one of its numbers is too wide for its part.
     Record = 23,
+    /// The record's first number is not 0: its run has ended.
     Ended = 24,
 }
 
@@ -75,11 +92,11 @@ impl Reason {
         Reason::First,
         Reason::Tag,
         Reason::Length,
-        Reason::Count,
+        Reason::TooMany,
         Reason::ZeroBit,
         Reason::Address,
         Reason::Mode,
-        Reason::Second,
+        Reason::CountOrData,
         Reason::Jump,
         Reason::Walk,
         Reason::Incoming,
@@ -98,24 +115,20 @@ impl Reason {
 impl fmt::Display for Reason {
     fn fmt(&self, formatter: &mut fmt::Formatter) -> fmt::Result {
         formatter.write_str(match self {
-            Reason::Cut => "a field's head or body runs past the end",
-            Reason::First => "no field, or a first one that is not format 1 with a try limit",
+            Reason::Cut => "a field runs past the end of the list",
+            Reason::First => "the first field is missing or wrong",
             Reason::Tag => "unknown tag, or a second first field",
             Reason::Length => "length wrong for its tag",
-            Reason::Count => "instruction 4,097",
-            Reason::ZeroBit => "a bit that has to be zero is set",
-            Reason::Address => "crate not 1 to 62, N not 1 to 23 or 30, or a scan at N 30",
-            Reason::Mode => {
-                "transfer mode 2, length not the mode's, block with control, or inline not write"
-            }
-            Reason::Second => {
-                "no count or no data for its word size, or a scan of more words than positions"
-            }
-            Reason::Jump => "a jump's target is not an instruction",
-            Reason::Walk => "the walk repeats or passes the last field",
-            Reason::Incoming => "the incoming buffer is too short",
-            Reason::Outgoing => "the outgoing buffer is too short",
-            Reason::Reply => "a reply is not well formed, or the row not a multiple of 8 bytes",
+            Reason::TooMany => "more than 4,096 instructions",
+            Reason::ZeroBit => "a bit that must be zero is set",
+            Reason::Address => "no such crate or station",
+            Reason::Mode => "transfer mode does not go with its length or function",
+            Reason::CountOrData => "wrong word count or inline data",
+            Reason::Jump => "jump to no instruction",
+            Reason::Walk => "the list comes to no halt",
+            Reason::Incoming => "incoming buffer too short",
+            Reason::Outgoing => "outgoing buffer too short",
+            Reason::Reply => "a reply is not well formed",
             Reason::Record => "the record does not fit the list",
             Reason::Ended => "the run has ended",
         })
