@@ -176,18 +176,19 @@ fn read(list: &[u8]) -> Result<(u64, Vec<Entry>), Refusal> {
     let (try_limit, mut rest) = first_field(list)?;
     let mut entries = Vec::with_capacity((rest.len() / 3).min(MOST_INSTRUCTIONS));
     let mut farthest = 0;
-    while !rest.is_empty() {
-        let place = list.len() - rest.len();
-        let Some((entry, after)) = field(rest, entries.len() == MOST_INSTRUCTIONS)
-            .map_err(|number| Refusal::at(number, place))?
-        else {
-            return Err(Refusal::at(1, place));
-        };
+    while let Some((entry, after)) = field(rest) {
+        if entries.len() == MOST_INSTRUCTIONS {
+            break;
+        }
         if let Entry::Jump(target) = entry {
             farthest = farthest.max(target);
         }
         entries.push(entry);
         rest = after;
+    }
+    if let [_, ..] = rest {
+        let full = entries.len() == MOST_INSTRUCTIONS;
+        return Err(Refusal::at(fault(rest, full), list.len() - rest.len()));
     }
     if usize::from(farthest) >= entries.len() {
         check_jumps(list, &entries)?;
@@ -210,36 +211,58 @@ fn halfword(low: u8, high: u8) -> usize {
     usize::from(u16::from_le_bytes([low, high]))
 }
 
-/// The next field and what follows it; `None` where it runs past the end.
-#[inline]
-fn field(rest: &[u8], full: bool) -> Result<Option<(Entry, &[u8])>, u8> {
+/// The next field and what follows it; `None` at the end and where it is refused.
+#[inline(always)]
+fn field(rest: &[u8]) -> Option<(Entry, &[u8])> {
+    let (&[tag, low, high], body) = rest.split_first_chunk()?;
+    match (tag, halfword(low, high)) {
+        (0x10, 4) => {
+            let (first, after) = body.split_first_chunk()?;
+            let command = Command::check(u32::from_le_bytes(*first), None).ok()?;
+            Some((Entry::Camac(command), after))
+        }
+        (0x10, 8) => {
+            let (first, after) = body.split_first_chunk()?;
+            let (second, after) = after.split_first_chunk()?;
+            let second = Some(u32::from_le_bytes(*second));
+            let command = Command::check(u32::from_le_bytes(*first), second).ok()?;
+            Some((Entry::Camac(command), after))
+        }
+        (0x20, 2) => {
+            let (target, after) = body.split_first_chunk()?;
+            Some((Entry::Jump(u16::from_le_bytes(*target)), after))
+        }
+        (0x21, 4) => {
+            let (longword, after) = body.split_first_chunk()?;
+            Some((Entry::Literal(u32::from_le_bytes(*longword)), after))
+        }
+        (0x2F, 0) => Some((Entry::Halt, body)),
+        _ => None,
+    }
+}
+
+/// Why a field is refused.
+#[cold]
+fn fault(rest: &[u8], full: bool) -> u8 {
     let [tag, low, high, body @ ..] = rest else {
-        return Ok(None);
+        return 1;
     };
-    let Some((body, after)) = body.split_at_checked(halfword(*low, *high)) else {
-        return Ok(None);
+    let Some(body) = body.get(..halfword(*low, *high)) else {
+        return 1;
     };
     if full {
-        return Err(5);
+        return 5;
     }
-    let entry = match (*tag, body) {
-        (0x10, &[a, b, c, d]) => {
-            Entry::Camac(Command::check(u32::from_le_bytes([a, b, c, d]), None)?)
+    let longword = |bytes: &[u8]| u32::from_le_bytes([bytes[0], bytes[1], bytes[2], bytes[3]]);
+    match (*tag, body.len()) {
+        (0x10, 4) => Command::check(longword(body), None).err().unwrap_or(0),
+        (0x10, 8) => {
+            let second = Some(longword(&body[4..]));
+            Command::check(longword(body), second).err().unwrap_or(0)
         }
-        (0x10, &[a, b, c, d, e, f, g, h]) => {
-            let second = u32::from_le_bytes([e, f, g, h]);
-            Entry::Camac(Command::check(
-                u32::from_le_bytes([a, b, c, d]),
-                Some(second),
-            )?)
-        }
-        (0x20, &[low, high]) => Entry::Jump(u16::from_le_bytes([low, high])),
-        (0x21, &[a, b, c, d]) => Entry::Literal(u32::from_le_bytes([a, b, c, d])),
-        (0x2F, []) => Entry::Halt,
-        (0x10 | 0x20 | 0x21 | 0x2F, _) => return Err(4),
-        _ => return Err(3),
-    };
-    Ok(Some((entry, after)))
+        (0x10 | 0x20 | 0x21 | 0x2F, _) => 4,
+        _ => 3,
+    }
 }
 
 /// Finds the place of the first jump past the last instruction.
