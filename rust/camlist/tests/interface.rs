@@ -102,7 +102,7 @@ fn null_buffers() {
 
 /// The numbers written are those of the named sizes and no more.
 #[test]
-fn sizes_of_answers_and_records() {
+fn sizes_of_the_answers() {
     let list = list(M17);
     let (bytes, length) = (list.as_ptr(), list.len());
     let (mut incoming, reply) = ([0; 8], ok(1));
@@ -324,7 +324,7 @@ fn builders_of_the_header() {
 
 /// The proved names are the manual's, and blanks above 15.
 #[test]
-fn names_of_codes() {
+fn names_of_the_header() {
     for (code, name) in CODE_NAMES.iter().enumerate() {
         let mut filled = [b' '; NAME_BYTES];
         filled[..name.len()].copy_from_slice(name);
