@@ -12,6 +12,7 @@ use common::{compare_start, compare_step, compare_steps, After, Given, Record};
 use reference::cases::calls::{call_case, CallCase};
 use reference::cases::coverage::Coverage;
 use reference::cases::rng::Rng;
+use std::fmt::Arguments;
 
 /// Debug builds look at fewer cases.
 const CASES: u64 = if cfg!(debug_assertions) {
@@ -52,6 +53,24 @@ fn compare_case(case: &CallCase, rng: &mut Rng, seed: u64, number: u64) {
         assert_eq!(in_pieces(&given, &case.row, rng), whole, "cut: {what}");
         assert_eq!(one_by_one(&given, &case.row), whole, "one by one: {what}");
     }
+    started_whole(&given, &case.row, what);
+}
+
+/// Start and steps are the whole run, unless 22 refuses its row.
+fn started_whole(given: &Given, row: &[u8], what: Arguments) {
+    let Given { list, outgoing, .. } = *given;
+    let mut incoming = given.incoming.to_vec();
+    let [refused, _, taken, whole @ ..] = ffi::run(list, &mut incoming, outgoing, row);
+    if refused != 0 {
+        return;
+    }
+    let (mut stepped, mut record) = (given.incoming.to_vec(), given.record);
+    ffi::start(list, &mut stepped, outgoing, &mut record);
+    let ended = record[0];
+    let steps = ffi::steps(list, &mut record, &mut stepped, outgoing, row);
+    assert_eq!(steps[0], 24 * ended, "{what}");
+    assert_eq!((steps[2], record), (taken, whole), "{what}");
+    assert!(stepped == incoming, "{what}");
 }
 
 /// Steps over a row cut at random into pieces, empty ones too.
