@@ -141,7 +141,7 @@ fn changed(rng: &mut Rng, mut numbers: [u64; 13]) -> [u64; 13] {
         6 => u64::MAX - rng.below(3),
         _ => {
             let (at, bits) = rng.pick(&NARROW);
-            numbers[at] += rng.within(1..=3) << bits;
+            numbers[at] = numbers[at].wrapping_add(rng.within(1..=3) << bits);
             return numbers;
         }
     };
