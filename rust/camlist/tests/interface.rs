@@ -149,6 +149,28 @@ fn sizes_of_the_answers() {
     assert_eq!(incoming, [1, 0, 0, 0, 0x5A, 0x5A, 0, 0]);
 }
 
+/// "slices that are only read may overlap each other": the outgoing words are the list's own
+/// bytes and the replies behind it.
+#[test]
+fn slices_that_overlap() {
+    let list = list(M15);
+    let all = [list.clone(), ok(1).to_vec(), ok(2).to_vec()].concat();
+    let (list, row) = all.split_at(list.len());
+    let run = ffi::run(list, &mut [], &all, row);
+    assert_eq!(run, run_numbers(list, &mut [], &all, row));
+    let mut record = [0; RECORD_NUMBERS];
+    let started = ffi::start(list, &mut [], &all, &mut record);
+    assert_eq!((record, started), start_numbers(list, &mut [], &all));
+    let mut expected = record;
+    let stepped = ffi::step(list, &mut record, &mut [], &all, &all[list.len()..][..8]);
+    let answer = step_numbers(list, &mut expected, &mut [], &all, &row[..8]);
+    assert_eq!((record, stepped), (expected, answer));
+    let stepped = ffi::steps(list, &mut record, &mut [], &all, row);
+    let answer = steps_numbers(list, &mut expected, &mut [], &all, row);
+    assert_eq!((record, stepped), (expected, answer));
+    assert_eq!(stepped[2], 2);
+}
+
 /// The lengths that admission takes are numbers, and may be as large as numbers are.
 #[test]
 fn any_lengths() {
