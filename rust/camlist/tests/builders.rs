@@ -152,9 +152,11 @@ fn reply_call(rng: &mut Rng) -> Call {
     }
 }
 
+type Change = fn(Reply) -> Reply;
+
 fn answer_call(rng: &mut Rng) -> Call {
     let (flags, data) = (part(rng, 64), part(rng, 1 << 24));
-    let changes: [(u32, u32, fn(Reply) -> Reply); 6] = [
+    let changes: [(u32, u32, Change); 6] = [
         (1, 0, Reply::no_q),
         (2, 0, Reply::no_x),
         (4, 4, Reply::err),

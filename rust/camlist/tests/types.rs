@@ -127,6 +127,8 @@ fn runs() {
     }
 }
 
+type Change = fn(Reply) -> Reply;
+
 /// The reply that the builders make of these bytes.
 fn reply(bytes: [u8; 8]) -> Reply {
     let [kind, flags, _, _, low, middle, high, _] = bytes;
@@ -138,7 +140,7 @@ fn reply(bytes: [u8; 8]) -> Reply {
     };
     if kind == 0 {
         let set = |bit: u8| flags & bit != 0;
-        let changes: [(bool, fn(Reply) -> Reply); 6] = [
+        let changes: [(bool, Change); 6] = [
             (!set(1), Reply::no_q),
             (!set(2), Reply::no_x),
             (set(4), Reply::err),

@@ -1,9 +1,10 @@
 //! Admission and the whole run once more, as fast as plain safe Rust makes them: the base
 //! line of the benchmark.
 //!
-//! They yield what `walk::admit` and `run::run_row` yield. One pass checks the row. Then each visit of the
-//! walk looks at its instruction once and takes the answers that are no cause in a loop of
-//! its own; the reply that stops that loop short of the last word ends the run.
+//! They yield what `walk::admit` and `run::run_row` yield. One pass checks the row. Then
+//! each visit of the walk looks at its instruction once and takes the answers that are no
+//! cause in a loop of its own, eight at a time where it can; the reply that stops that loop
+//! short of the last word ends the run.
 
 mod plan;
 
