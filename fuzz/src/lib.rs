@@ -1,15 +1,22 @@
-//! libFuzzer's target: both calls of the C interface beside those of the separate build.
+//! libFuzzer's target: the calls of the C interface beside those of the separate build.
 //!
-//! An input is the list's length (two bytes, little-endian), a byte that says how long the
-//! buffers are, the list, and the row: as it stands, or with one byte for each reply, which
-//! keeps most rows well formed.
+//! An input is a head of six bytes, the list, and the row. The head: the list's length (two
+//! bytes, little-endian); how long the buffers are, and whether the row stands as it is or
+//! has one byte for each reply, which keeps most rows well formed; how many replies bring a
+//! run to the record that step and steps are given; which of the record's numbers is changed
+//! and how.
 
 #[path = "../../rust/camlist/tests/common/mod.rs"]
 mod common;
 
-use common::{compare_admission, compare_run};
+use camlist::ffi;
+use common::{compare_admission, compare_run, compare_start, compare_step, compare_steps};
+use common::{Given, Record};
 use reference::cases::by_hand::{answer, kind, ok};
 use std::slice;
+
+/// The bytes before the list.
+const HEAD: usize = 6;
 
 /// The bit of the third byte that says that the row stands as it is.
 const RAW_ROW: u8 = 0x80;
@@ -29,19 +36,26 @@ pub unsafe extern "C" fn LLVMFuzzerTestOneInput(data: *const u8, size: usize) ->
     } else {
         slice::from_raw_parts(data, size)
     };
-    if let [low, high, manner, rest @ ..] = input {
-        let length = usize::from(u16::from_le_bytes([*low, *high]));
+    if let Some((head, rest)) = input.split_first_chunk::<HEAD>() {
+        let [low, high, manner, taken, at, change] = *head;
+        let length = usize::from(u16::from_le_bytes([low, high]));
         let (list, row) = rest.split_at(length.min(rest.len()));
-        compare(list, *manner, row);
+        let row = if manner & RAW_ROW == 0 {
+            let replies = row.iter().enumerate();
+            replies.flat_map(|(at, &byte)| reply(byte, at)).collect()
+        } else {
+            row.to_vec()
+        };
+        compare(list, manner, &row, usize::from(taken), (at, change));
     }
     0
 }
 
-fn compare(list: &[u8], manner: u8, row: &[u8]) {
-    let [_, _, _, b, o] = camlist::admit(list, u64::MAX, u64::MAX);
+fn compare(list: &[u8], manner: u8, row: &[u8], taken: usize, change: (u8, u8)) {
+    let [_, _, _, b, o] = ffi::admit(list, u64::MAX, u64::MAX);
     let incoming_len = buffer_length(b, manner & 7);
     let outgoing_len = buffer_length(o, manner >> 3 & 7);
-    let what = format_args!("list {list:02X?}, row {row:02X?}");
+    let what = format_args!("list {list:02X?}, row {row:02X?}, {taken}, {change:?}");
     compare_admission(list, u64::MAX, u64::MAX, what);
     compare_admission(list, incoming_len, outgoing_len, what);
     if incoming_len.max(outgoing_len) > MOST_BUFFER {
@@ -49,15 +63,35 @@ fn compare(list: &[u8], manner: u8, row: &[u8]) {
     }
     let incoming = vec![0xEE; incoming_len as usize];
     let outgoing: Vec<u8> = (0..outgoing_len).map(|at| at as u8).collect();
-    let row = if manner & RAW_ROW == 0 {
-        row.iter()
-            .enumerate()
-            .flat_map(|(at, &byte)| reply(byte, at))
-            .collect()
-    } else {
-        row.to_vec()
+    compare_run(list, &incoming, &outgoing, row, what);
+    let mut given = Given {
+        list,
+        record: [0x77; ffi::RECORD_NUMBERS],
+        incoming: &incoming,
+        outgoing: &outgoing,
     };
-    compare_run(list, &incoming, &outgoing, &row, what);
+    compare_start(&given, what);
+    let (before, after) = row.split_at(row.len().min(8 * taken));
+    let mut reached = incoming.clone();
+    let [_, _, _, record @ ..] = ffi::run(list, &mut reached, &outgoing, before);
+    given.record = changed(record, change);
+    given.incoming = &reached;
+    compare_step(&given, &after[..after.len().min(8)], what);
+    compare_steps(&given, after, what);
+}
+
+/// The record with one number changed: a little, by one bit, or altogether. Its number 13
+/// and those after it change nothing.
+fn changed(mut record: Record, (at, change): (u8, u8)) -> Record {
+    if let Some(number) = record.get_mut(usize::from(at)) {
+        *number = match change {
+            0..=63 => *number ^ 1 << change,
+            64..=127 => u64::from(change - 64),
+            128..=191 => number.wrapping_add(u64::from(change - 127)),
+            _ => number.wrapping_sub(u64::from(change - 191)),
+        };
+    }
+    record
 }
 
 /// One byte short, exact, or a little longer.
@@ -79,10 +113,13 @@ fn reply(byte: u8, at: usize) -> [u8; 8] {
     }
 }
 
-/// An input for a list and a row as it stands, with buffers that fit.
+/// An input for a list and a row as it stands, with buffers that fit and half of the row
+/// before the record.
 pub fn seed(list: &[u8], row: &[u8]) -> Vec<u8> {
     let [low, high] = (list.len() as u16).to_le_bytes();
-    [&[low, high, RAW_ROW | 1 | 1 << 3], list, row].concat()
+    let half = (row.len() / 16).min(255) as u8;
+    let head = [low, high, RAW_ROW | 1 | 1 << 3, half, 13, 0];
+    [&head, list, row].concat()
 }
 
 /// The same with one byte for each reply of the row, which is well formed.
@@ -94,5 +131,6 @@ pub fn short_seed(list: &[u8], row: &[u8]) -> Vec<u8> {
     let bytes: Vec<u8> = row.chunks(8).map(byte).collect();
     let mut input = seed(list, &bytes);
     input[2] &= !RAW_ROW;
+    input[3] = (bytes.len() / 2).min(255) as u8;
     input
 }

@@ -1,20 +1,30 @@
 //! Links the proved engine, target/staticlib/libhost.a of the repository.
 
-use std::env;
-use std::path::PathBuf;
+use std::path::{Path, PathBuf};
+use std::{env, fs};
+
+/// A symbol of the version that this crate is written for.
+const SYMBOL: &[u8] = b"camlist_steps_v1";
 
 fn main() {
     let manifest = env::var_os("CARGO_MANIFEST_DIR").expect("cargo says where the crate is");
     let folder = PathBuf::from(manifest).join("../../target/staticlib");
     let library = folder.join("libhost.a");
     println!("cargo::rerun-if-changed={}", library.display());
-    if !library.is_file() {
+    if let Some(fault) = fault(&library) {
         let place = library.display();
-        println!(
-            "cargo::error={place} is missing: run `rt staticlib host` in the repository's root"
-        );
+        println!("cargo::error={place} {fault}: run `rt staticlib host` in the repository's root");
         return;
     }
     println!("cargo::rustc-link-search=native={}", folder.display());
     println!("cargo::rustc-link-lib=static=host");
+}
+
+/// What is wrong with the library.
+fn fault(library: &Path) -> Option<&'static str> {
+    let Ok(bytes) = fs::read(library) else {
+        return Some("is missing");
+    };
+    let has_symbol = bytes.windows(SYMBOL.len()).any(|some| some == SYMBOL);
+    (!has_symbol).then_some("is of another version")
 }

@@ -1,7 +1,7 @@
-//! What the benchmark runs: lists of every kind, each with a row of clean answers (Q = X =
-//! 1 and nothing else) and a row without a clean one.
+//! What the benchmark runs: lists of every kind, with rows of answers that are taken whole.
 
-use reference::cases::lists::{Draft, DraftField, BITS_16, BLOCK};
+use camlist::ffi;
+use reference::cases::lists::{Draft, DraftField, BITS_16, BLOCK, INLINE};
 use reference::cases::rng::Rng;
 use reference::cases::rows::{self, Manner};
 use reference::walk::admission;
@@ -10,25 +10,77 @@ use reference::walk::admission;
 const PLACE: u32 = 6 << 25 | 3 << 8 | 1;
 const READ: u32 = 2 << 16;
 const WRITE: u32 = 16 << 16;
+const CONTROL: u32 = 26 << 16;
 const STOP: u32 = 0;
 const IGNORE: u32 = 1 << 3;
 const REPEAT: u32 = 2 << 3;
 const SCAN: u32 = 3 << 3;
 
 const MOST_REPLIES: usize = 65_536;
-const CLEAN: u8 = 0b0011;
-const DERR: u8 = 0b1000;
 
-/// A list, its outgoing buffer and the length of its incoming one.
+/// Bits of an answer's byte 1.
+const Q: u8 = 1;
+const X: u8 = 2;
+const DERR: u8 = 8;
+
+/// The answers of a row.
+#[derive(Clone, Copy, Debug, PartialEq, Eq)]
+pub enum Answers {
+    /// Q = X = 1 and no other flag.
+    Clean,
+    /// The same with DERR.
+    Flagged,
+    /// At random, none of them clean, none that ends the run.
+    Other,
+    /// Two with Q = 0 before each word.
+    Waits,
+    /// Every fourth with Q = 0.
+    Skips,
+}
+
+impl Answers {
+    pub const ALL: [Answers; 5] = [
+        Answers::Clean,
+        Answers::Flagged,
+        Answers::Other,
+        Answers::Waits,
+        Answers::Skips,
+    ];
+
+    pub fn name(self) -> &'static str {
+        match self {
+            Answers::Clean => "clean",
+            Answers::Flagged => "flagged",
+            Answers::Other => "other",
+            Answers::Waits => "waits",
+            Answers::Skips => "skips",
+        }
+    }
+
+    /// Byte 1 of the answer with this number.
+    fn flags(self, number: usize) -> u8 {
+        match self {
+            Answers::Waits if number % 3 < 2 => X,
+            Answers::Skips if number % 4 == 3 => X,
+            Answers::Flagged => Q | X | DERR,
+            _ => Q | X,
+        }
+    }
+}
+
+/// A list, its outgoing buffer, the length of its incoming one, and the answers that it is
+/// measured with.
 pub struct Workload {
     pub name: &'static str,
     pub list: Vec<u8>,
     pub outgoing: Vec<u8>,
     pub incoming_len: usize,
+    pub answers: &'static [Answers],
 }
 
 /// The lists for whole runs.
 pub fn workloads() -> Vec<Workload> {
+    use Answers::*;
     let block = |bits, words: u32| {
         let size = if bits & BITS_16 == 0 { 2 } else { 1 };
         DraftField::camac(PLACE | BLOCK | bits, Some((words * size).wrapping_neg()))
@@ -36,24 +88,42 @@ pub fn workloads() -> Vec<Workload> {
     let short = |bits| vec![block(bits | BITS_16, 65_536)];
     let wide = |bits| vec![block(bits, 32_768); 2];
     let mixed = [block(IGNORE | READ | BITS_16, 3), block(IGNORE | READ, 1)];
-    let single = DraftField::camac(PLACE | STOP | READ | BITS_16, None);
+    let singles = |bits| vec![DraftField::camac(PLACE | STOP | BITS_16 | bits, None); 4_095];
+    let inline = DraftField::camac(PLACE | STOP | BITS_16 | INLINE | WRITE, Some(7));
     // From N 1, A 0: even a scan that skips to station 23 has room for its 16 words.
     let scan_first = 1 << 25 | 3 << 8 | 1 | BLOCK | SCAN | READ;
     let scan = DraftField::camac(scan_first, Some(32_u32.wrapping_neg()));
+    let plain: &[Answers] = &[Clean, Flagged];
+    let drawn: &[Answers] = &[Clean, Flagged, Other];
     vec![
-        workload("16-bit read, ignore", short(IGNORE | READ)),
-        workload("16-bit read, stop", short(STOP | READ)),
-        workload("24-bit read, ignore", wide(IGNORE | READ)),
-        workload("16-bit write, ignore", short(IGNORE | WRITE)),
-        workload("24-bit write, ignore", wide(IGNORE | WRITE)),
-        workload("mixed 3 x 16, 1 x 24", vec![mixed; 2_047].concat()),
-        workload("16-bit repeat", short(REPEAT | READ)),
-        workload("24-bit scans of 16", vec![scan; 2_000]),
-        workload("16-bit singles", vec![single; 4_095]),
+        workload("16-bit read, ignore", short(IGNORE | READ), drawn),
+        workload("16-bit read, stop", short(STOP | READ), plain),
+        workload("24-bit read, ignore", wide(IGNORE | READ), drawn),
+        workload("16-bit write, ignore", short(IGNORE | WRITE), drawn),
+        workload("24-bit write, ignore", wide(IGNORE | WRITE), plain),
+        workload(
+            "16-bit repeat",
+            short(REPEAT | READ),
+            &[Clean, Flagged, Waits],
+        ),
+        workload(
+            "24-bit scans of 16",
+            vec![scan; 2_000],
+            &[Clean, Flagged, Skips],
+        ),
+        workload("3 x 16, 1 x 24 in turn", vec![mixed; 2_047].concat(), plain),
+        workload("16-bit single reads", singles(READ), plain),
+        workload("16-bit single writes", singles(WRITE), plain),
+        workload("controls", singles(CONTROL), plain),
+        workload("inline writes", vec![inline; 4_095], plain),
     ]
 }
 
-fn workload(name: &'static str, mut fields: Vec<DraftField>) -> Workload {
+fn workload(
+    name: &'static str,
+    mut fields: Vec<DraftField>,
+    answers: &'static [Answers],
+) -> Workload {
     fields.push(DraftField::halt());
     let list = Draft::new(3, fields).bytes();
     let counts = reference::admit(&list, u64::MAX, u64::MAX).expect("admitted");
@@ -62,19 +132,34 @@ fn workload(name: &'static str, mut fields: Vec<DraftField>) -> Workload {
         list,
         outgoing: Rng::new(1).bytes(counts.o as usize),
         incoming_len: counts.b as usize,
+        answers,
     }
 }
 
 impl Workload {
-    /// A row that ends nothing before its list's end, of clean answers or of none.
-    pub fn row(&self, clean: bool) -> Vec<u8> {
+    /// A row of these answers, as many as the list takes.
+    pub fn row(&self, answers: Answers) -> Vec<u8> {
+        let mut rng = Rng::new(2);
+        let mut row = if answers == Answers::Other {
+            self.drawn_row(&mut rng)
+        } else {
+            let reply = |number| {
+                let [low, middle, high, ..] = rng.number().to_le_bytes();
+                [0, answers.flags(number), 0, 0, low, middle, high, 0]
+            };
+            (0..MOST_REPLIES).flat_map(reply).collect()
+        };
+        let mut incoming = vec![0; self.incoming_len];
+        let run = reference::run_row(&self.list, &mut incoming, &self.outgoing, &row);
+        row.truncate(8 * run.taken as usize);
+        row
+    }
+
+    fn drawn_row(&self, rng: &mut Rng) -> Vec<u8> {
         let admitted = admission(&self.list, u64::MAX, u64::MAX).expect("admitted");
-        let manner = if clean { Manner::Good } else { Manner::Slow };
-        let mut row = rows::row(&mut Rng::new(2), &admitted, manner, MOST_REPLIES);
-        if !clean {
-            for reply in row.chunks_mut(8).filter(|reply| reply[1] == CLEAN) {
-                reply[1] |= DERR;
-            }
+        let mut row = rows::row(rng, &admitted, Manner::Slow, MOST_REPLIES);
+        for reply in row.chunks_mut(8).filter(|reply| reply[1] == Q | X) {
+            reply[1] |= DERR;
         }
         row
     }
@@ -82,17 +167,20 @@ impl Workload {
 
 /// The lists for admission.
 pub fn admissions() -> Vec<(&'static str, Vec<u8>)> {
-    let list = |fields| Draft::new(3, fields).bytes();
-    let mut literals = vec![DraftField::literal(7); 4_095];
-    literals.push(DraftField::halt());
+    let list = |mut fields: Vec<DraftField>| {
+        fields.push(DraftField::halt());
+        Draft::new(3, fields).bytes()
+    };
+    let single = DraftField::camac(PLACE | READ | BITS_16, None);
     let block = DraftField::camac(PLACE | BLOCK | READ | BITS_16, Some(0xFFFF_0000));
     vec![
-        ("4,095 literals, halt", list(literals)),
-        ("4,095 jumps, halt", list(shuffled_jumps())),
+        ("4,095 singles, halt", list(vec![single; 4_095])),
         (
-            "65,536-halfword block",
-            list(vec![block, DraftField::halt()]),
+            "4,095 literals, halt",
+            list(vec![DraftField::literal(7); 4_095]),
         ),
+        ("4,095 jumps, halt", Draft::new(3, shuffled_jumps()).bytes()),
+        ("one block, halt", list(vec![block])),
     ]
 }
 
@@ -109,3 +197,37 @@ fn shuffled_jumps() -> Vec<DraftField> {
     }
     fields
 }
+
+/// The numbers of instructions of the lists that steps are measured on.
+pub const STEP_LISTS: [usize; 3] = [10, 100, 1_000];
+
+/// A run half-way through a list of 16-bit single reads and a halt.
+pub struct Halfway {
+    pub list: Vec<u8>,
+    pub incoming: Vec<u8>,
+    pub record: [u64; ffi::RECORD_NUMBERS],
+}
+
+impl Halfway {
+    pub fn of(instructions: usize) -> Halfway {
+        let single = DraftField::camac(PLACE | READ | BITS_16, None);
+        let mut fields = vec![single; instructions - 1];
+        fields.push(DraftField::halt());
+        let list = Draft::new(3, fields).bytes();
+        let mut incoming = vec![0; 2 * (instructions - 1)];
+        let mut record = [0; ffi::RECORD_NUMBERS];
+        ffi::start(&list, &mut incoming, &[], &mut record);
+        for _ in 0..instructions / 2 {
+            let [refused, ..] = ffi::step(&list, &mut record, &mut incoming, &[], &CLEAN_REPLY);
+            assert_eq!(refused, 0);
+        }
+        Halfway {
+            list,
+            incoming,
+            record,
+        }
+    }
+}
+
+/// An answer with Q = X = 1.
+pub const CLEAN_REPLY: [u8; 8] = [0, Q | X, 0, 0, 0x34, 0x12, 0, 0];

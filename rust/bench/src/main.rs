@@ -1,4 +1,4 @@
-//! Times the proved engine beside the separate build's plain fast loop: same process, same
+//! Times the proved engine beside the separate build's plain loop: same process, same
 //! inputs, in turns. `cargo run --release -p bench`.
 
 use bench::{admissions, workloads, Workload};
@@ -41,8 +41,8 @@ fn compare_runs(workload: &Workload, row: &[u8]) -> Times {
     let mut proved_incoming = vec![1; workload.incoming_len];
     let mut plain_incoming = vec![1; workload.incoming_len];
     let times = compare(
-        || camlist::run(list, &mut proved_incoming, outgoing, row),
-        || reference::fast::run_row(list, &mut plain_incoming, outgoing, row),
+        || camlist::ffi::run(list, &mut proved_incoming, outgoing, row),
+        || reference::plain::run_row(list, &mut plain_incoming, outgoing, row),
     );
     assert!(proved_incoming == plain_incoming, "the engines differ");
     times
@@ -58,8 +58,9 @@ fn main() {
         "list", "answers", "replies", "proved", "plain", "ratio"
     );
     for workload in workloads() {
-        for (answers, clean) in [("clean", true), ("other", false)] {
-            let row = workload.row(clean);
+        for &answers in workload.answers {
+            let row = workload.row(answers);
+            let answers = answers.name();
             let times = compare_runs(&workload, &row);
             let replies = row.len() / 8;
             let each = |seconds: f64| seconds * 1e9 / replies as f64;
@@ -77,8 +78,8 @@ fn main() {
     );
     for (name, list) in admissions() {
         let times = compare(
-            || camlist::admit(&list, u64::MAX, u64::MAX),
-            || reference::admit(&list, u64::MAX, u64::MAX),
+            || camlist::ffi::admit(&list, u64::MAX, u64::MAX),
+            || reference::plain::admit(&list, u64::MAX, u64::MAX),
         );
         let (proved, plain) = (times.proved * 1e6, times.plain * 1e6);
         println!("{name:<22} {proved:>8.1} {plain:>8.1} {:>7.2}", times.ratio);

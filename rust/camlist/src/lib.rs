@@ -1,88 +1,36 @@
-//! The proved crate list engine for hosts in Rust.
+//! The proved crate list engine for hosts in Rust: safe calls over its static library.
 //!
-//! What each number of an answer means, and the numbers of refusals, codes and status
-//! bits, stand in `include/camlist.h`.
+//! A [`List`] is written, [`admit`] says whether it is well formed and what it can need at
+//! most, and a [`Run`] asks for one CAMAC operation after another and takes the replies.
+//! [`run()`] takes a row of replies that were collected before. A call that is refused
+//! changes nothing and says why ([`Refusal`]).
 //!
 //! ```
-//! let list = [1, 4, 0, 1, 0, 3, 0, 0x10, 4, 0, 2, 1, 0, 2, 0x2F, 0, 0];
-//! assert_eq!(camlist::admit(&list, 2, 0), [0, 0, 1, 2, 0]);
-//! let mut incoming = [0; 2];
-//! let answer = camlist::run(&list, &mut incoming, &[], &[0, 3, 0, 0, 0x34, 0x12, 0, 0]);
-//! assert_eq!(answer[..4], [0, 0, 1, 1]);
+//! use camlist::{admit, Camac, List, Reply, Run};
+//!
+//! let list = List::new(3).single(Camac::at(1, 1, 0, 0).bits16()).halt();
+//! let counts = admit(&list, 2, 0)?;
+//! let mut incoming = vec![0; counts.incoming as usize];
+//! let mut run = Run::start(&list, &mut incoming, &[])?;
+//! let operation = run.wanted().unwrap();
+//! assert_eq!((operation.crate_number, operation.station, operation.function), (1, 1, 0));
+//! assert_eq!(run.step(Reply::answer(0x1234))?, None);
+//! assert_eq!(run.status().to_string(), "00000080 (NO ERROR)");
 //! assert_eq!(incoming, [0x34, 0x12]);
+//! # Ok::<(), camlist::Refusal>(())
 //! ```
 
-/// How many numbers admission answers.
-pub const ADMIT_NUMBERS: usize = 5;
+pub mod ffi;
+mod list;
+mod record;
+mod refusal;
+mod reply;
+mod run;
+mod status;
 
-/// How many numbers the whole run answers.
-pub const RUN_NUMBERS: usize = 16;
-
-/// The C interface itself, as `include/camlist.h` has it.
-pub mod ffi {
-    use crate::{ADMIT_NUMBERS, RUN_NUMBERS};
-
-    extern "C" {
-        pub fn camlist_admit(
-            list: *const u8,
-            list_len: usize,
-            incoming_len: u64,
-            outgoing_len: u64,
-            answer: *mut [u64; ADMIT_NUMBERS],
-        );
-
-        pub fn camlist_run(
-            list: *const u8,
-            list_len: usize,
-            incoming: *mut u8,
-            incoming_len: usize,
-            outgoing: *const u8,
-            outgoing_len: usize,
-            replies: *const u8,
-            replies_len: usize,
-            answer: *mut [u64; RUN_NUMBERS],
-        );
-    }
-}
-
-/// Admission of a list with two buffer lengths: number, place, W, B, O.
-pub fn admit(list: &[u8], incoming_len: u64, outgoing_len: u64) -> [u64; ADMIT_NUMBERS] {
-    let mut answer = [0; ADMIT_NUMBERS];
-    // SAFETY: the slice and the array are valid for the call, and the array is ours alone.
-    unsafe {
-        ffi::camlist_admit(
-            list.as_ptr(),
-            list.len(),
-            incoming_len,
-            outgoing_len,
-            &mut answer,
-        );
-    }
-    answer
-}
-
-/// The whole run over a row of replies: number, place, taken, then the record.
-pub fn run(
-    list: &[u8],
-    incoming: &mut [u8],
-    outgoing: &[u8],
-    replies: &[u8],
-) -> [u64; RUN_NUMBERS] {
-    let mut answer = [0; RUN_NUMBERS];
-    // SAFETY: the slices and the array are valid for the call; nothing overlaps `incoming`,
-    // which is lent to us alone, nor the array, which is ours.
-    unsafe {
-        ffi::camlist_run(
-            list.as_ptr(),
-            list.len(),
-            incoming.as_mut_ptr(),
-            incoming.len(),
-            outgoing.as_ptr(),
-            outgoing.len(),
-            replies.as_ptr(),
-            replies.len(),
-            &mut answer,
-        );
-    }
-    answer
-}
+pub use list::{Camac, List};
+pub use record::{Buffer, Note, Record};
+pub use refusal::{Reason, Refusal};
+pub use reply::{row, Reply};
+pub use run::{admit, run, Counts, Operation, Ran, Run};
+pub use status::{Code, Status};

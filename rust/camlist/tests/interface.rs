@@ -1,17 +1,17 @@
-//! What the header promises a host in C: buffers, sizes of the answers, constants, and the
-//! example program.
+//! What the header promises a host in C: buffers, sizes of answers and records, constants,
+//! texts and names, and the example program. The types of this crate repeat its constants.
 
-use camlist::ffi::{camlist_admit, camlist_run};
-use camlist::{ADMIT_NUMBERS, RUN_NUMBERS};
-use reference::cases::by_hand::{list, M15, M17};
-use reference::host::{admission_numbers, run_numbers};
+use camlist::ffi::{self, raw, ADMIT_NUMBERS, CALL_NUMBERS, RUN_NUMBERS};
+use camlist::ffi::{NAME_BYTES, RECORD_NUMBERS, STEPS_NUMBERS};
+use camlist::{Camac, Code, Reason, Record, Reply, Status};
+use reference::cases::by_hand::{list, ok, M15, M17};
+use reference::host::{admission_numbers, run_numbers, start_numbers, step_numbers, steps_numbers};
 use reference::names::CODE_NAMES;
-use reference::status;
 use std::collections::BTreeMap;
+use std::fs;
 use std::path::{Path, PathBuf};
 use std::process::Command;
 use std::ptr::{null, null_mut};
-use std::{fs, str};
 
 /// A folder of the repository.
 fn repository(folder: &str) -> PathBuf {
@@ -20,22 +20,82 @@ fn repository(folder: &str) -> PathBuf {
         .join(folder)
 }
 
-/// "Null is fine for a buffer whose length is 0."
+fn header() -> String {
+    fs::read_to_string(repository("include/camlist.h")).expect("the header")
+}
+
+/// "NULL is fine where the length is 0."
 #[test]
 fn null_buffers() {
-    let mut admitted = [7; ADMIT_NUMBERS];
-    let mut run = [7; RUN_NUMBERS];
-    // SAFETY: every length is 0 but that of the list, which is valid for the calls.
-    unsafe {
-        camlist_admit(null(), 0, 0, 0, &mut admitted);
-        assert_eq!(admitted, admission_numbers(&[], 0, 0));
-        camlist_run(null(), 0, null_mut(), 0, null(), 0, null(), 0, &mut run);
-        assert_eq!(run, run_numbers(&[], &mut [], &[], &[]));
-        for text in ["2F 00 00", M15, M17] {
-            let list = list(text);
-            let (bytes, length) = (list.as_ptr(), list.len());
-            camlist_run(bytes, length, null_mut(), 0, null(), 0, null(), 0, &mut run);
-            assert_eq!(run, run_numbers(&list, &mut [], &[], &[]));
+    for list in [vec![], list("2F 00 00"), list(M15), list(M17)] {
+        let bytes = if list.is_empty() {
+            null()
+        } else {
+            list.as_ptr()
+        };
+        let mut admitted = [7; ADMIT_NUMBERS];
+        let (mut run, mut called) = ([7; RUN_NUMBERS], [7; CALL_NUMBERS]);
+        let (mut stepped, mut record) = ([7; STEPS_NUMBERS], [0; RECORD_NUMBERS]);
+        let (mut expected, length) = ([0; RECORD_NUMBERS], list.len());
+        let (none, no_bytes) = (null_mut(), null());
+        // SAFETY: every length is 0 but that of the list, which is valid for the calls.
+        unsafe {
+            raw::camlist_admit_v1(bytes, length, 0, 0, &mut admitted);
+            raw::camlist_run_v1(bytes, length, none, 0, no_bytes, 0, no_bytes, 0, &mut run);
+        }
+        assert_eq!(admitted, admission_numbers(&list, 0, 0));
+        assert_eq!(run, run_numbers(&list, &mut [], &[], &[]));
+        for _ in 0..2 {
+            let answer = step_numbers(&list, &mut expected, &mut [], &[], &[]);
+            // SAFETY: as above; the arrays are ours.
+            unsafe {
+                raw::camlist_step_v1(
+                    bytes,
+                    length,
+                    &mut record,
+                    none,
+                    0,
+                    no_bytes,
+                    0,
+                    no_bytes,
+                    0,
+                    &mut called,
+                );
+            }
+            assert_eq!((record, called), (expected, answer));
+            let answer = steps_numbers(&list, &mut expected, &mut [], &[], &[]);
+            // SAFETY: as above.
+            unsafe {
+                raw::camlist_steps_v1(
+                    bytes,
+                    length,
+                    &mut record,
+                    none,
+                    0,
+                    no_bytes,
+                    0,
+                    no_bytes,
+                    0,
+                    &mut stepped,
+                );
+            }
+            assert_eq!((record, stepped), (expected, answer));
+            // SAFETY: as above.
+            unsafe {
+                raw::camlist_start_v1(
+                    bytes,
+                    length,
+                    none,
+                    0,
+                    no_bytes,
+                    0,
+                    &mut record,
+                    &mut called,
+                );
+            }
+            let answer = start_numbers(&list, &mut [], &[]);
+            assert_eq!((record, called), answer);
+            expected = answer.0;
         }
     }
 }
@@ -44,28 +104,71 @@ fn null_buffers() {
 #[test]
 fn sizes_of_the_answers() {
     let list = list(M17);
+    let (bytes, length) = (list.as_ptr(), list.len());
+    let (mut incoming, reply) = ([0; 8], ok(1));
     let mut admitted = [[7; ADMIT_NUMBERS]; 3];
     let mut run = [[7; RUN_NUMBERS]; 3];
-    // SAFETY: the list is valid for the calls; the lengths of the other buffers are 0.
+    let mut records = [[7; RECORD_NUMBERS]; 3];
+    let mut called = [[7; CALL_NUMBERS]; 3];
+    let mut stepped = [[7; STEPS_NUMBERS]; 3];
+    let mut name = [[7; NAME_BYTES]; 3];
+    // SAFETY: list, buffers and arrays are valid for the calls, and ours.
     unsafe {
-        let (bytes, length) = (list.as_ptr(), list.len());
-        camlist_admit(bytes, length, 8, 0, &mut admitted[1]);
-        camlist_run(
+        let (buffer, none) = (incoming.as_mut_ptr(), null());
+        raw::camlist_admit_v1(bytes, length, 8, 0, &mut admitted[1]);
+        raw::camlist_run_v1(bytes, length, null_mut(), 0, none, 0, none, 0, &mut run[1]);
+        let (record, answer) = (&mut records[1], &mut called[1]);
+        raw::camlist_start_v1(bytes, length, buffer, 8, none, 0, record, answer);
+        let row = reply.as_ptr();
+        raw::camlist_steps_v1(
             bytes,
             length,
-            null_mut(),
+            record,
+            buffer,
+            8,
+            none,
             0,
-            null(),
+            row,
             0,
-            null(),
-            0,
-            &mut run[1],
+            &mut stepped[1],
         );
+        assert_eq!(called, [[7; 7], [0, 0, 3, 6, 0, 2, 0], [7; 7]]);
+        assert_eq!(stepped, [[7; 8], [0, 0, 0, 3, 6, 0, 2, 0], [7; 8]]);
+        let (record, answer) = (&mut records[1], &mut called[1]);
+        raw::camlist_step_v1(bytes, length, record, buffer, 8, none, 0, row, 8, answer);
+        raw::camlist_code_name_v1(13, &mut name[1]);
     }
     assert_eq!(admitted, [[7; 5], [0, 0, 1, 8, 0], [7; 5]]);
     let mut refused = [0; RUN_NUMBERS];
     (refused[0], refused[3]) = (20, 1);
     assert_eq!(run, [[7; 16], refused, [7; 16]]);
+    let ended = [1, 2, 0, 0, 0, 0, 8, 0, 1, 0x80, 0, 0, 2];
+    assert_eq!(records, [[7; 13], ended, [7; 13]]);
+    assert_eq!(called, [[7; 7], [0; 7], [7; 7]]);
+    assert_eq!(name, [[7; 16], *b"NO SYNC         ", [7; 16]]);
+    assert_eq!(incoming, [1, 0, 0, 0, 0x5A, 0x5A, 0, 0]);
+}
+
+/// "slices that are only read may overlap each other": the outgoing words are the list's own
+/// bytes and the replies behind it.
+#[test]
+fn slices_that_overlap() {
+    let list = list(M15);
+    let all = [list.clone(), ok(1).to_vec(), ok(2).to_vec()].concat();
+    let (list, row) = all.split_at(list.len());
+    let run = ffi::run(list, &mut [], &all, row);
+    assert_eq!(run, run_numbers(list, &mut [], &all, row));
+    let mut record = [0; RECORD_NUMBERS];
+    let started = ffi::start(list, &mut [], &all, &mut record);
+    assert_eq!((record, started), start_numbers(list, &mut [], &all));
+    let mut expected = record;
+    let stepped = ffi::step(list, &mut record, &mut [], &all, &all[list.len()..][..8]);
+    let answer = step_numbers(list, &mut expected, &mut [], &all, &row[..8]);
+    assert_eq!((record, stepped), (expected, answer));
+    let stepped = ffi::steps(list, &mut record, &mut [], &all, row);
+    let answer = steps_numbers(list, &mut expected, &mut [], &all, row);
+    assert_eq!((record, stepped), (expected, answer));
+    assert_eq!(stepped[2], 2);
 }
 
 /// The lengths that admission takes are numbers, and may be as large as numbers are.
@@ -73,72 +176,186 @@ fn sizes_of_the_answers() {
 fn any_lengths() {
     let list = list(M17);
     for length in [0, 7, 8, 1 << 32, 1 << 63, u64::MAX] {
-        let answer = camlist::admit(&list, length, u64::MAX - length);
+        let answer = ffi::admit(&list, length, u64::MAX - length);
         assert_eq!(answer, admission_numbers(&list, length, u64::MAX - length));
     }
 }
 
-/// The header's constants by name.
-fn constants(header: &str) -> BTreeMap<&str, u64> {
-    let constant = |line| {
-        let mut words = str::split_whitespace(line).skip_while(|word| *word != "#define");
-        let (name, value) = (words.nth(1)?, words.next()?);
-        let value = value.trim_end_matches('u');
+/// The header's constants by name, those of one prefix.
+fn constants(prefix: &str) -> BTreeMap<String, u64> {
+    let constant = |line: &str| {
+        let mut words = line
+            .split_whitespace()
+            .skip_while(|word| *word != "#define");
+        let (name, value) = (words.nth(1)?, words.next()?.trim_end_matches('u'));
         let value = match value.strip_prefix("0x") {
             Some(digits) => u64::from_str_radix(digits, 16),
             None => value.parse(),
         };
-        Some((name.strip_prefix("CAMLIST_")?, value.ok()?))
+        let name = name.strip_prefix("CAMLIST_")?.strip_prefix(prefix)?;
+        Some((name.to_string(), value.ok()?))
     };
-    header.lines().filter_map(constant).collect()
+    header().lines().filter_map(constant).collect()
+}
+
+/// Asserts that the header has these constants of one prefix and no other.
+fn assert_constants(prefix: &str, expected: &[(&str, u64)]) {
+    let expected = expected
+        .iter()
+        .map(|(name, value)| (name.to_string(), *value));
+    assert_eq!(constants(prefix), expected.collect::<BTreeMap<_, _>>());
 }
 
 #[test]
-fn constants_of_the_header() {
-    let header = fs::read_to_string(repository("include/camlist.h")).expect("the header");
-    let constants = constants(&header);
-    assert_eq!(constants["ADMIT_NUMBERS"], ADMIT_NUMBERS as u64);
-    assert_eq!(constants["RUN_NUMBERS"], RUN_NUMBERS as u64);
-    let bits = [
-        ("DERR", status::DERR),
-        ("TIMEOUT", status::TIMEOUT),
-        ("NO_SYNC", status::NO_SYNC),
-        ("ERR", status::ERR),
-        ("SCAN_LEFT", status::SCAN_LEFT),
-        ("LPE", status::LPE),
-        ("TPE", status::TPE),
-        ("NOT_RECOGNISED", status::NOT_RECOGNISED),
-        ("TRANSMISSION", status::TRANSMISSION),
-        ("NO_X", status::NO_X),
-        ("NO_Q", status::NO_Q),
-        ("ENDED", status::ENDED),
+fn sizes_of_the_header() {
+    let sizes: BTreeMap<_, _> = constants("")
+        .into_iter()
+        .filter(|(name, _)| name.ends_with("_NUMBERS") || name == "NAME_BYTES")
+        .collect();
+    let expected = [
+        ("ADMIT_NUMBERS", ADMIT_NUMBERS),
+        ("CALL_NUMBERS", CALL_NUMBERS),
+        ("STEPS_NUMBERS", STEPS_NUMBERS),
+        ("RUN_NUMBERS", RUN_NUMBERS),
+        ("RECORD_NUMBERS", RECORD_NUMBERS),
+        ("NAME_BYTES", NAME_BYTES),
     ];
-    let of = |prefix: &'static str| {
-        let names = constants.iter();
-        names.filter_map(move |(name, value)| Some((name.strip_prefix(prefix)?, *value)))
-    };
-    let expected = bits.map(|(name, bit)| (name, u64::from(bit)));
-    assert_eq!(
-        of("STATUS_").collect::<BTreeMap<_, _>>(),
-        BTreeMap::from(expected)
-    );
-    let mut refusals: Vec<_> = of("REFUSED_").map(|(_, number)| number).collect();
-    refusals.sort_unstable();
-    assert_eq!(refusals, (1..=11).chain(20..=24).collect::<Vec<_>>());
-    let mut codes: Vec<_> = of("CODE_").map(|(_, code)| code).collect();
-    codes.sort_unstable();
-    assert_eq!(codes, [0, 1, 4, 7, 8, 9, 0xA, 0xB, 0xC, 0xD]);
+    let expected = expected.map(|(name, size)| (name.to_string(), size as u64));
+    assert_eq!(sizes, BTreeMap::from(expected));
 }
 
-/// The sixteen names stand in the header in their order.
+#[test]
+fn status_bits_of_the_header() {
+    let bits = [
+        ("DERR", Status::DERR),
+        ("TIMEOUT", Status::TIMEOUT),
+        ("NO_SYNC", Status::NO_SYNC),
+        ("ERR", Status::ERR),
+        ("SCAN_LEFT", Status::SCAN_LEFT),
+        ("LPE", Status::LPE),
+        ("TPE", Status::TPE),
+        ("NOT_RECOGNISED", Status::NOT_RECOGNISED),
+        ("TRANSMISSION", Status::TRANSMISSION),
+        ("NO_X", Status::NO_X),
+        ("NO_Q", Status::NO_Q),
+        ("ENDED", Status::ENDED),
+    ];
+    assert_constants("STATUS_", &bits.map(|(name, bit)| (name, u64::from(bit.0))));
+}
+
+#[test]
+fn codes_of_the_header() {
+    let codes = [
+        ("NO_ERROR", Code::NO_ERROR),
+        ("ILLEGAL_COMMAND", Code::ILLEGAL_COMMAND),
+        ("SERIAL_ERROR", Code::SERIAL_ERROR),
+        ("NO_Q", Code::NO_Q),
+        ("NO_X", Code::NO_X),
+        ("N_ABOVE_23", Code::N_ABOVE_23),
+        ("STE", Code::STE),
+        ("TIMEOUT", Code::TIMEOUT),
+        ("ADNR", Code::ADNR),
+        ("NO_SYNC", Code::NO_SYNC),
+    ];
+    let codes = codes.map(|(name, code)| (name, u64::from(code.number())));
+    assert_constants("CODE_", &codes);
+}
+
+/// The reasons have the header's names, numbers and texts.
+#[test]
+fn refusals_of_the_header() {
+    let header = header();
+    let mut expected = BTreeMap::new();
+    for reason in Reason::ALL {
+        let mut name = String::new();
+        for letter in format!("{reason:?}").chars() {
+            if letter.is_uppercase() && !name.is_empty() {
+                name.push('_');
+            }
+            name.push(letter.to_ascii_uppercase());
+        }
+        let text = format!("case CAMLIST_REFUSED_{name}: return \"{reason}\";");
+        assert!(header.contains(&text), "{text}");
+        expected.insert(name, reason.number());
+    }
+    assert_eq!(constants("REFUSED_"), expected);
+}
+
+/// The record's numbers stand where the header says.
+#[test]
+fn record_of_the_header() {
+    let mut numbers = [0; RECORD_NUMBERS];
+    for (place, number) in numbers.iter_mut().enumerate() {
+        *number = place as u64;
+    }
+    let record = Record::from_numbers(numbers);
+    let note = record.note().expect("a note");
+    let places = [
+        ("ENDED", 0),
+        ("INSTRUCTION", record.instruction()),
+        ("WORDS_LEFT", record.words_left()),
+        ("TRIES", record.tries()),
+        ("N", record.station()),
+        ("A", record.subaddress()),
+        ("INCOMING_MARK", record.incoming_mark()),
+        ("OUTGOING_MARK", record.outgoing_mark()),
+        ("OPERATIONS", record.operations()),
+        ("STATUS", u64::from(record.status().0)),
+        ("NOTE_BUFFER", 10),
+        ("NOTE_OFFSET", note.offset),
+        ("NOTE_LENGTH", note.length),
+        ("NUMBERS", RECORD_NUMBERS as u64),
+    ];
+    assert_constants("RECORD_", &places);
+    assert!(!record.ended());
+    numbers[0] = 1;
+    assert!(Record::from_numbers(numbers).ended());
+}
+
+/// The builders set the header's bits.
+#[test]
+fn builders_of_the_header() {
+    let constants = constants("");
+    let camac = Camac::at(1, 2, 3, 4);
+    let with = |camac: Camac| u64::from(camac.first_longword());
+    let options = [
+        ("STOP", with(camac.scan().stop())),
+        ("IGNORE", with(camac.ignore())),
+        ("REPEAT", with(camac.repeat())),
+        ("SCAN", with(camac.scan())),
+        ("16_BIT", with(camac.bits16())),
+        ("ABORT_DISABLE", with(camac.abort_disable())),
+    ];
+    for (name, first) in options {
+        assert_eq!(first, with(camac) | constants[name], "{name}");
+    }
+    let answer = Reply::answer(0).bytes()[1];
+    let flags = [
+        ("Q", Reply::answer(0).no_q()),
+        ("X", Reply::answer(0).no_x()),
+        ("ERR", Reply::answer(0).err()),
+        ("DERR", Reply::answer(0).derr()),
+        ("TPE", Reply::answer(0).tpe()),
+        ("LPE", Reply::answer(0).lpe()),
+    ];
+    for (name, reply) in flags {
+        let changed = answer ^ reply.bytes()[1];
+        assert_eq!(u64::from(changed), constants[name], "{name}");
+    }
+}
+
+/// The proved names are the manual's, and blanks above 15.
 #[test]
 fn names_of_the_header() {
-    let header = fs::read_to_string(repository("include/camlist.h")).expect("the header");
-    let table = header.split_once("names[16] = {").expect("the table").1;
-    let table = table.split_once('}').expect("its end").0;
-    let names: Vec<_> = table.split('"').skip(1).step_by(2).collect();
-    let expected = CODE_NAMES.map(|name| str::from_utf8(name).expect("a name"));
-    assert_eq!(names, expected);
+    for (code, name) in CODE_NAMES.iter().enumerate() {
+        let mut filled = [b' '; NAME_BYTES];
+        filled[..name.len()].copy_from_slice(name);
+        assert_eq!(ffi::code_name(code as u64), filled);
+    }
+    for code in [16, 255, 256, 1 << 32, u64::MAX] {
+        assert_eq!(ffi::code_name(code), [b' '; NAME_BYTES]);
+    }
+    assert_eq!(Code::N_ABOVE_23.to_string(), "N>23");
 }
 
 /// Builds the C example and compares what it prints with its file `expected`.

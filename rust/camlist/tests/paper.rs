@@ -1,6 +1,6 @@
 //! Document 01's cases and the manual's examples, through the C interface.
 
-use camlist::{admit, run};
+use camlist::ffi::{admit, run};
 use reference::cases::paper;
 
 #[test]

@@ -2,13 +2,12 @@
 //! edges, rows of every manner, buffers exact, longer and short.
 
 mod common;
+#[path = "common/seed.rs"]
+mod seed;
 
 use common::{compare_admission, compare_run};
 use reference::cases::case;
 use reference::cases::coverage::Coverage;
-use std::env;
-use std::io::{self, Write};
-use std::time::{SystemTime, UNIX_EPOCH};
 
 /// Debug builds look at fewer cases.
 const CASES: u64 = if cfg!(debug_assertions) {
@@ -42,18 +41,7 @@ fn fixed_seed() {
     compare(FIXED_SEED);
 }
 
-/// The seed is the environment's CAMLIST_SEED, or the clock's.
 #[test]
 fn fresh_seed() {
-    let seed = match env::var("CAMLIST_SEED") {
-        Ok(seed) => seed.parse().expect("CAMLIST_SEED is a decimal number"),
-        Err(_) => {
-            let now = SystemTime::now().duration_since(UNIX_EPOCH);
-            now.expect("a clock after 1970").as_nanos() as u64
-        }
-    };
-    // Past the capture, so that it is shown even where all is well.
-    let said = writeln!(io::stderr(), "{CASES} random cases, CAMLIST_SEED={seed}");
-    said.expect("standard error is open");
-    compare(seed);
+    compare(seed::fresh(CASES, "random cases"));
 }

@@ -8,20 +8,54 @@ use crate::status;
 use crate::walk::{marks_before, most_operations, Admitted};
 use crate::words::{Camac, QMode};
 
+/// What a record must be to fit a list, in the order of document 01's sentence.
+#[derive(Clone, Copy, Debug, PartialEq, Eq, PartialOrd, Ord)]
+pub enum Clause {
+    Waiting,
+    Instruction,
+    WordsLeft,
+    Tries,
+    Position,
+    Marks,
+    Operations,
+    Status,
+    Note,
+}
+
 /// "A record fits the list if it hasn't ended, its instruction is a CAMAC one on the
 /// walk", and so on.
 pub fn fits(admitted: &Admitted, record: &Record) -> bool {
+    broken_clause(admitted, record).is_none()
+}
+
+/// The first clause that a record breaks.
+pub fn broken_clause(admitted: &Admitted, record: &Record) -> Option<Clause> {
+    if record.ended {
+        return Some(Clause::Waiting);
+    }
     let Some((visit, camac)) = current(admitted, record) else {
-        return false;
+        return Some(Clause::Instruction);
     };
-    !record.ended
-        && (1..=camac.words()).contains(&record.words_left)
-        && tries_fit(admitted, &camac, record.tries)
-        && position_fits(&camac, record.position())
-        && marks_fit(admitted, visit, &camac, record)
-        && operations_fit(admitted, visit, &camac, record)
-        && record.status & !status::FLAGS == 0
-        && note_fits(record)
+    // The later clauses count on words left being 1 to n and the position being in order.
+    let checks: [(Clause, &dyn Fn() -> bool); 7] = [
+        (Clause::WordsLeft, &|| {
+            (1..=camac.words()).contains(&record.words_left)
+        }),
+        (Clause::Tries, &|| tries_fit(admitted, &camac, record.tries)),
+        (Clause::Position, &|| {
+            position_fits(&camac, record.position())
+        }),
+        (Clause::Marks, &|| {
+            marks_fit(admitted, visit, &camac, record)
+        }),
+        (Clause::Operations, &|| {
+            operations_fit(admitted, visit, &camac, record)
+        }),
+        (Clause::Status, &|| record.status & !status::FLAGS == 0),
+        (Clause::Note, &|| note_fits(record)),
+    ];
+    let broken = checks.into_iter().find(|(_, holds)| !holds());
+    broken.map(|(clause, _)| clause)
 }
 
 /// The visit of the walk that a record stands at, with its CAMAC instruction.

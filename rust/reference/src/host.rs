@@ -1,8 +1,12 @@
-//! What a host in C is given: the answers of admission and of the whole run as rows of
+//! What a host in C is given: the answers of the calls, and the record, as rows of
 //! numbers.
+//!
+//! A record's first number is 0 while the run goes on; any other is an ended one. A number
+//! too wide for its part (N, A and the note's buffer have a byte, the status has 32 bits)
+//! belongs to a record that doesn't fit. A record refused keeps its numbers.
 
 use crate::run::RunAnswer;
-use crate::{admit, run_row, Counts, Refusal};
+use crate::{admit, run_row, start, step, steps, Counts, Operation, Record, Refusal};
 
 /// Number, place, W, B, O. Number 0 means not refused.
 pub fn admission_numbers(list: &[u8], incoming_len: u64, outgoing_len: u64) -> [u64; 5] {
@@ -29,4 +33,66 @@ impl RunAnswer {
         numbers[3..].copy_from_slice(&self.record.numbers());
         numbers
     }
+}
+
+/// The record of a start; number, place, then the operation's five.
+pub fn start_numbers(list: &[u8], incoming: &mut [u8], outgoing: &[u8]) -> ([u64; 13], [u64; 7]) {
+    let answer = start(list, incoming, outgoing);
+    let numbers = call_numbers(answer.refusal, &answer.wanted);
+    (answer.record.numbers(), numbers)
+}
+
+/// Steps a record; number, place, then the operation's five.
+pub fn step_numbers(
+    list: &[u8],
+    record: &mut [u64; 13],
+    incoming: &mut [u8],
+    outgoing: &[u8],
+    reply: &[u8],
+) -> [u64; 7] {
+    let answer = step(list, &record_of(record), incoming, outgoing, reply);
+    if answer.refusal.is_none() {
+        *record = answer.record.numbers();
+    }
+    call_numbers(answer.refusal, &answer.wanted)
+}
+
+/// Steps a record over a row; number, place, taken, then the operation's five.
+pub fn steps_numbers(
+    list: &[u8],
+    record: &mut [u64; 13],
+    incoming: &mut [u8],
+    outgoing: &[u8],
+    row: &[u8],
+) -> [u64; 8] {
+    let answer = steps(list, &record_of(record), incoming, outgoing, row);
+    if answer.refusal.is_none() {
+        *record = answer.record.numbers();
+    }
+    let [number, place, crate_number, n, a, f, data] = call_numbers(answer.refusal, &answer.wanted);
+    [number, place, answer.taken, crate_number, n, a, f, data]
+}
+
+/// The record of some numbers; one that fits no list where the status is too wide. The
+/// other numbers have as many bits here as they can have there.
+fn record_of(numbers: &[u64; 13]) -> Record {
+    Record::from_numbers(numbers).unwrap_or(Record {
+        ended: numbers[0] != 0,
+        status: u32::MAX,
+        ..Record::default()
+    })
+}
+
+fn call_numbers(refusal: Option<Refusal>, wanted: &Operation) -> [u64; 7] {
+    let (number, place) = refusal.map_or((0, 0), |refusal| {
+        (u64::from(refusal.number), refusal.place as u64)
+    });
+    let Operation {
+        crate_number,
+        n,
+        a,
+        f,
+        data,
+    } = *wanted;
+    [number, place, crate_number, n, a, f, data]
 }

@@ -8,12 +8,12 @@
 
 pub mod camrun;
 pub mod cases;
-pub mod fast;
 pub mod fit;
 pub mod host;
 pub mod list;
 pub mod names;
 pub mod packing;
+pub mod plain;
 pub mod record;
 pub mod refusal;
 pub mod reply;
@@ -25,5 +25,5 @@ pub mod words;
 
 pub use record::{last_moved, Note, Record};
 pub use refusal::Refusal;
-pub use run::{run_row, start, step, Answer, Operation, RunAnswer};
+pub use run::{run_row, start, step, steps, Answer, Operation, RunAnswer, StepsAnswer};
 pub use walk::{admit, Counts};

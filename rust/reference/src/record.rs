@@ -53,6 +53,31 @@ impl Record {
         }
     }
 
+    /// The record of some numbers: any number but 0 first is an ended one; `None` if the
+    /// status has more than its 32 bits.
+    pub fn from_numbers(numbers: &[u64; 13]) -> Option<Record> {
+        let [ended, instruction, words_left, tries, n, a, ..] = *numbers;
+        let [.., incoming_mark, outgoing_mark, operations, status, buffer, offset, length] =
+            *numbers;
+        Some(Record {
+            ended: ended != 0,
+            instruction,
+            words_left,
+            tries,
+            n,
+            a,
+            incoming_mark,
+            outgoing_mark,
+            operations,
+            status: u32::try_from(status).ok()?,
+            note: Note {
+                buffer,
+                offset,
+                length,
+            },
+        })
+    }
+
     /// The record's numbers in document 01's order.
     pub fn numbers(&self) -> [u64; 13] {
         [

@@ -40,6 +40,16 @@ pub struct RunAnswer {
     pub record: Record,
 }
 
+/// What several steps yield together.
+#[derive(Clone, Copy, Debug, PartialEq, Eq)]
+pub struct StepsAnswer {
+    pub refusal: Option<Refusal>,
+    /// How many replies were taken.
+    pub taken: u64,
+    pub record: Record,
+    pub wanted: Operation,
+}
+
 /// "Start takes the list and both buffers and runs to the first operation or the end."
 pub fn start(list: &[u8], incoming: &mut [u8], outgoing: &[u8]) -> Answer {
     let admitted = match admission(list, incoming.len() as u64, outgoing.len() as u64) {
@@ -76,6 +86,38 @@ pub fn step(
     }
 }
 
+/// Steps over a row of replies from a record on: stops at the end or when replies run out,
+/// as the whole run does, and like it checks its entire row before the first step.
+pub fn steps(
+    list: &[u8],
+    record: &Record,
+    incoming: &mut [u8],
+    outgoing: &[u8],
+    row: &[u8],
+) -> StepsAnswer {
+    let lengths = (incoming.len() as u64, outgoing.len() as u64);
+    let checked = check_record(list, record, lengths)
+        .and_then(|admitted| Ok((admitted, reply::read_row(row).ok_or(Refusal::plain(22))?)));
+    let (admitted, replies) = match checked {
+        Ok(checked) => checked,
+        Err(refusal) => {
+            return StepsAnswer {
+                refusal: Some(refusal),
+                taken: 0,
+                record: *record,
+                wanted: Operation::default(),
+            }
+        }
+    };
+    let (record, taken) = take_row(&admitted, *record, incoming, &replies);
+    StepsAnswer {
+        refusal: None,
+        taken,
+        record,
+        wanted: wanted(&admitted, &record, outgoing),
+    }
+}
+
 /// "A whole-run call takes a row of replies, equals start and steps, and stops at the end
 /// or when replies run out".
 pub fn run_row(list: &[u8], incoming: &mut [u8], outgoing: &[u8], row: &[u8]) -> RunAnswer {
@@ -90,20 +132,31 @@ pub fn run_row(list: &[u8], incoming: &mut [u8], outgoing: &[u8], row: &[u8]) ->
             }
         }
     };
-    let mut record = begin(&admitted, incoming);
-    let mut taken = 0;
-    for reply in &replies {
-        if record.ended {
-            break;
-        }
-        record = take(&admitted, &record, incoming, reply);
-        taken += 1;
-    }
+    let record = begin(&admitted, incoming);
+    let (record, taken) = take_row(&admitted, record, incoming, &replies);
     RunAnswer {
         refusal: None,
         taken,
         record,
     }
+}
+
+/// Takes replies until the run ends or they run out; how many it took.
+fn take_row(
+    admitted: &Admitted,
+    mut record: Record,
+    incoming: &mut [u8],
+    replies: &[Reply],
+) -> (Record, u64) {
+    let mut taken = 0;
+    for reply in replies {
+        if record.ended {
+            break;
+        }
+        record = take(admitted, &record, incoming, reply);
+        taken += 1;
+    }
+    (record, taken)
 }
 
 fn refused(refusal: Refusal, record: Record) -> Answer {
@@ -114,14 +167,12 @@ fn refused(refusal: Refusal, record: Record) -> Answer {
     }
 }
 
-/// A step's refusals: those of admission, then "24 ended; 23 record doesn't fit; 22 reply
-/// not formed as above".
-fn check_step(
+/// A record's refusals: those of admission, then "24 ended; 23 record doesn't fit".
+fn check_record(
     list: &[u8],
     record: &Record,
     (incoming_len, outgoing_len): (u64, u64),
-    reply: &[u8],
-) -> Result<(Admitted, Reply), Refusal> {
+) -> Result<Admitted, Refusal> {
     let admitted = admission(list, incoming_len, outgoing_len)?;
     if record.ended {
         return Err(Refusal::plain(24));
@@ -129,6 +180,17 @@ fn check_step(
     if !fits(&admitted, record) {
         return Err(Refusal::plain(23));
     }
+    Ok(admitted)
+}
+
+/// A step's refusals: those of its record, then "22 reply not formed as above".
+fn check_step(
+    list: &[u8],
+    record: &Record,
+    lengths: (u64, u64),
+    reply: &[u8],
+) -> Result<(Admitted, Reply), Refusal> {
+    let admitted = check_record(list, record, lengths)?;
     match reply::read(reply) {
         Some(reply) => Ok((admitted, reply)),
         None => Err(Refusal::plain(22)),

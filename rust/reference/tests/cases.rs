@@ -1,8 +1,8 @@
-//! The cases themselves: what they cover, and the fast run compared with the whole run.
+//! The cases themselves: what they cover, and the plain run compared with the whole run.
 
 use reference::cases::coverage::Coverage;
-use reference::cases::{case, records, Case};
-use reference::{fast, run_row, start, step, Operation, Record, RunAnswer};
+use reference::cases::{calls, case, records, Case};
+use reference::{admit, plain, run_row, start, step, Operation, Record, RunAnswer};
 
 const SEED: u64 = 1;
 
@@ -49,12 +49,26 @@ fn step_cases_cover_everything() {
 }
 
 #[test]
-fn fast_equals_the_whole_run() {
+fn call_cases_cover_everything() {
+    let mut coverage = Coverage::of_calls();
+    for number in 0..CASES {
+        coverage.observe_call(&calls::call_case(SEED, number));
+    }
+    println!("{}", coverage.table());
+    assert_eq!(coverage.missing(), []);
+}
+
+#[test]
+fn plain_equals_the_whole_run() {
     for number in 0..CASES {
         let case = case(SEED, number);
         let mut incoming = case.incoming.clone();
-        let fast = fast::run_row(&case.list, &mut incoming, &case.outgoing, &case.row);
-        assert_eq!((fast, incoming), whole_run(&case), "case {number}");
+        let (incoming_len, outgoing_len) = case.lengths;
+        let admitted = plain::admit(&case.list, incoming_len, outgoing_len);
+        let expected = admit(&case.list, incoming_len, outgoing_len);
+        assert_eq!(admitted, expected, "case {number}");
+        let plain = plain::run_row(&case.list, &mut incoming, &case.outgoing, &case.row);
+        assert_eq!((plain, incoming), whole_run(&case), "case {number}");
     }
 }
 

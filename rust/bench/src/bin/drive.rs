@@ -1,13 +1,16 @@
 //! One call for callgrind, which counts inside `measured`; for the script `instructions`.
 //!
-//! - `drive` prints the calls that there are: `run NUMBER ANSWERS REPLIES NAME`, and
-//!   `admit NUMBER NAME`.
-//! - `drive ENGINE run NUMBER ANSWERS REPLIES` makes a run over that many replies.
+//! - `drive` prints the calls that there are, one on a line, with its list's name.
+//! - `drive ENGINE run NUMBER ANSWERS REPLIES` makes a whole run over that many replies.
+//! - `drive ENGINE steps NUMBER ANSWERS REPLIES` the same by start, which isn't counted, and
+//!   steps.
+//! - `drive ENGINE step INSTRUCTIONS` makes one step half-way through a list.
 //! - `drive ENGINE admit NUMBER` makes an admission.
 //!
-//! ENGINE is `proved` or `plain`, ANSWERS `clean` or `other`.
+//! ENGINE is `proved` or `plain`; the plain one has no steps.
 
-use bench::{admissions, workloads};
+use bench::{admissions, workloads, Answers, Halfway, CLEAN_REPLY, STEP_LISTS};
+use camlist::ffi;
 use std::env;
 use std::hint::black_box;
 
@@ -23,12 +26,13 @@ fn main() {
     let words: Vec<&str> = words.iter().map(String::as_str).collect();
     match words[..] {
         [] => print_calls(),
-        [engine, "run", number, answers, replies] => run(
-            engine == "proved",
-            index(number),
-            answers == "clean",
-            index(replies),
-        ),
+        [engine, "run", number, answers, replies] => {
+            run(engine == "proved", index(number), answers, index(replies))
+        }
+        ["proved", "steps", number, answers, replies] => {
+            steps(index(number), answers, index(replies))
+        }
+        ["proved", "step", instructions] => step(index(instructions)),
         [engine, "admit", number] => admit(engine == "proved", index(number)),
         _ => panic!("see the comment at this program's head"),
     }
@@ -38,29 +42,75 @@ fn index(word: &str) -> usize {
     word.parse().expect("a number")
 }
 
+fn answers_named(name: &str) -> Answers {
+    let mut answers = Answers::ALL.into_iter();
+    answers
+        .find(|answers| answers.name() == name)
+        .expect("answers")
+}
+
 fn print_calls() {
-    for (number, workload) in workloads().iter().enumerate() {
-        for (answers, clean) in [("clean", true), ("other", false)] {
-            let replies = workload.row(clean).len() / 8;
-            println!("run {number} {answers} {replies} {}", workload.name);
+    for call in ["run", "steps"] {
+        for (number, workload) in workloads().iter().enumerate() {
+            for &answers in workload.answers {
+                let (replies, name) = (workload.row(answers).len() / 8, workload.name);
+                println!("{call} {number} {} {replies} {name}", answers.name());
+            }
         }
+    }
+    for instructions in STEP_LISTS {
+        println!("step {instructions}");
     }
     for (number, (name, _)) in admissions().iter().enumerate() {
         println!("admit {number} {name}");
     }
 }
 
-fn run(proved: bool, number: usize, clean: bool, replies: usize) {
+fn run(proved: bool, number: usize, answers: &str, replies: usize) {
     let workload = &workloads()[number];
     let mut incoming = vec![1; workload.incoming_len];
     let (list, outgoing) = (&workload.list, &workload.outgoing);
-    let row = &workload.row(clean)[..8 * replies];
+    let row = &workload.row(answers_named(answers))[..8 * replies];
     measured(&mut || {
         if proved {
-            black_box(camlist::run(list, &mut incoming, outgoing, row));
+            black_box(ffi::run(list, &mut incoming, outgoing, row));
         } else {
-            black_box(reference::fast::run_row(list, &mut incoming, outgoing, row));
+            black_box(reference::plain::run_row(
+                list,
+                &mut incoming,
+                outgoing,
+                row,
+            ));
         }
+    });
+}
+
+fn steps(number: usize, answers: &str, replies: usize) {
+    let workload = &workloads()[number];
+    let mut incoming = vec![1; workload.incoming_len];
+    let (list, outgoing) = (&workload.list, &workload.outgoing);
+    let row = &workload.row(answers_named(answers))[..8 * replies];
+    let mut record = [0; ffi::RECORD_NUMBERS];
+    ffi::start(list, &mut incoming, outgoing, &mut record);
+    measured(&mut || {
+        black_box(ffi::steps(list, &mut record, &mut incoming, outgoing, row));
+    });
+}
+
+fn step(instructions: usize) {
+    let Halfway {
+        list,
+        mut incoming,
+        mut record,
+    } = Halfway::of(instructions);
+    measured(&mut || {
+        black_box(ffi::step(
+            &list,
+            &mut record,
+            &mut incoming,
+            &[],
+            &CLEAN_REPLY,
+        ));
     });
 }
 
@@ -68,9 +118,9 @@ fn admit(proved: bool, number: usize) {
     let list = &admissions()[number].1;
     measured(&mut || {
         if proved {
-            black_box(camlist::admit(list, u64::MAX, u64::MAX));
+            black_box(ffi::admit(list, u64::MAX, u64::MAX));
         } else {
-            let _ = black_box(reference::admit(list, u64::MAX, u64::MAX));
+            let _ = black_box(reference::plain::admit(list, u64::MAX, u64::MAX));
         }
     });
 }

@@ -2,8 +2,11 @@
 
 use std::collections::BTreeMap;
 
+use super::calls::{CallCase, Origin, NARROW};
 use super::records::StepCase;
 use super::Case;
+use crate::fit::{broken_clause, Clause};
+use crate::host::{start_numbers, step_numbers, steps_numbers};
 use crate::list::Instruction;
 use crate::list::MOST_INSTRUCTIONS;
 use crate::packing;
@@ -77,6 +80,28 @@ pub enum Event {
     TriesSpent,
     /// X = 0 or a parity error that AD = 1 saved.
     AbortDisabled,
+    /// A start that runs to its first operation, or to its end, or is refused.
+    StartWaits,
+    StartEnds,
+    StartRefused,
+    /// A step from a record of this origin that was not refused.
+    Stepped(Origin),
+    /// Refusal 23 by this clause.
+    Unfit(Clause),
+    /// Refusal 23 by a number of the record, counted from 0, that is too wide.
+    TooWide(usize),
+    /// Refusal 24 where the record's first number is neither 0 nor 1.
+    EndedOtherwise,
+    /// Refusal 22 by a reply that is too short or too long.
+    ShortReply,
+    LongReply,
+    /// Steps over no reply; that take all and wait; that end with the last; that end before.
+    StepsOverNone,
+    StepsWait,
+    StepsEnd,
+    StepsPastEnd,
+    /// Steps refused with this number.
+    StepsRefused(u8),
 }
 
 /// Counters of events.
@@ -110,6 +135,41 @@ impl Coverage {
     pub fn of_steps() -> Coverage {
         let refusals = [20, 22, 23, 24].map(Event::Refusal);
         Coverage::expecting(refusals.into_iter().chain(of_operations()))
+    }
+
+    /// Counters for cases of start, step and steps.
+    pub fn of_calls() -> Coverage {
+        let refusals = || (1..=11).chain(20..=24);
+        let clauses = [
+            Clause::Instruction,
+            Clause::WordsLeft,
+            Clause::Tries,
+            Clause::Position,
+            Clause::Marks,
+            Clause::Operations,
+            Clause::Status,
+            Clause::Note,
+        ];
+        let plain = [
+            Event::StartWaits,
+            Event::StartEnds,
+            Event::StartRefused,
+            Event::Stepped(Origin::Reached),
+            Event::Stepped(Origin::Made),
+            Event::Stepped(Origin::Changed),
+            Event::EndedOtherwise,
+            Event::ShortReply,
+            Event::LongReply,
+            Event::StepsOverNone,
+            Event::StepsWait,
+            Event::StepsEnd,
+            Event::StepsPastEnd,
+        ];
+        let events = of_operations().chain(plain);
+        let events = events.chain(refusals().map(Event::Refusal));
+        let events = events.chain(refusals().map(Event::StepsRefused));
+        let events = events.chain(clauses.map(Event::Unfit));
+        Coverage::expecting(events.chain(NARROW.map(|(at, _)| Event::TooWide(at))))
     }
 
     fn expecting(events: impl Iterator<Item = Event>) -> Coverage {
@@ -213,6 +273,83 @@ impl Coverage {
         let admitted = admission(&case.list, lengths.0, lengths.1).expect("admitted");
         let reply = reply::read(&case.reply).expect("well-formed");
         self.observe_operation(&admitted, &case.record, &reply, &answer.record);
+    }
+
+    /// Counts what a case of start, step and steps meets.
+    pub fn observe_call(&mut self, case: &CallCase) {
+        let mut incoming = case.incoming.clone();
+        let (record, answer) = start_numbers(&case.list, &mut incoming, &case.outgoing);
+        self.met(match (answer[0], record[0]) {
+            (0, 0) => Event::StartWaits,
+            (0, _) => Event::StartEnds,
+            _ => Event::StartRefused,
+        });
+        self.observe_one_step(case);
+        self.observe_steps(case);
+    }
+
+    fn observe_one_step(&mut self, case: &CallCase) {
+        let (mut record, mut incoming) = (case.record, case.incoming.clone());
+        let [number, ..] = step_numbers(
+            &case.list,
+            &mut record,
+            &mut incoming,
+            &case.outgoing,
+            &case.reply,
+        );
+        if number != 0 {
+            self.met(Event::Refusal(number as u8));
+        }
+        let lengths = (case.incoming.len() as u64, case.outgoing.len() as u64);
+        let Ok(admitted) = admission(&case.list, lengths.0, lengths.1) else {
+            return;
+        };
+        match number {
+            0 => {
+                self.met(Event::Stepped(case.origin));
+                let records = [&case.record, &record].map(Record::from_numbers);
+                let [Some(before), Some(after)] = records else {
+                    panic!("a record that fits");
+                };
+                let reply = reply::read(&case.reply).expect("well-formed");
+                self.observe_operation(&admitted, &before, &reply, &after);
+            }
+            22 => {
+                self.met_if(case.reply.len() < 8, Event::ShortReply);
+                self.met_if(case.reply.len() > 8, Event::LongReply);
+            }
+            23 => self.observe_unfit(&admitted, &case.record),
+            _ => self.met_if(case.record[0] > 1, Event::EndedOtherwise),
+        }
+    }
+
+    fn observe_unfit(&mut self, admitted: &Admitted, numbers: &[u64; 13]) {
+        let wide = NARROW.iter().find(|(at, bits)| numbers[*at] >> bits != 0);
+        if let Some(&(at, _)) = wide {
+            return self.met(Event::TooWide(at));
+        }
+        let record = Record::from_numbers(numbers).expect("a status that is not too wide");
+        let clause = broken_clause(admitted, &record).expect("a clause that 23 is for");
+        self.met(Event::Unfit(clause));
+    }
+
+    fn observe_steps(&mut self, case: &CallCase) {
+        let (mut record, mut incoming) = (case.record, case.incoming.clone());
+        let [number, _, taken, ..] = steps_numbers(
+            &case.list,
+            &mut record,
+            &mut incoming,
+            &case.outgoing,
+            &case.row,
+        );
+        let replies = case.row.len() as u64 / 8;
+        self.met(match (number, record[0]) {
+            (0, 0) if replies == 0 => Event::StepsOverNone,
+            (0, 0) => Event::StepsWait,
+            (0, _) if taken == replies => Event::StepsEnd,
+            (0, _) => Event::StepsPastEnd,
+            _ => Event::StepsRefused(number as u8),
+        });
     }
 
     /// Counts what one reply meets, with the records before and after it.

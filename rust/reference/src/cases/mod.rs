@@ -2,6 +2,7 @@
 //! number. The same seed and number give the same case.
 
 pub mod by_hand;
+pub mod calls;
 pub mod coverage;
 pub mod damage;
 pub mod lists;

@@ -98,6 +98,53 @@ pub fn fitting(rng: &mut Rng, admitted: &Admitted) -> Option<Record> {
     Some(record)
 }
 
+/// Every place of a run that a record can fit: instruction, words left, tries, N and A; each
+/// with as many operations as fit, no flags and no note.
+pub fn all_fitting(admitted: &Admitted) -> Vec<Record> {
+    let mut records = Vec::new();
+    for (visit, &number) in admitted.walk.iter().enumerate() {
+        let Some(camac) = camac_at(admitted, visit) else {
+            continue;
+        };
+        let marks = marks_before(&admitted.list, &admitted.walk, visit);
+        for words_left in 1..=camac.words() {
+            let marks = marks.after_words(&camac, camac.words() - words_left);
+            let tries = match camac.q_mode {
+                QMode::Repeat => admitted.list.try_limit,
+                _ => 1,
+            };
+            for (tries, position) in (0..tries).flat_map(|tries| places(&camac, tries)) {
+                let mut record = Record {
+                    instruction: number as u64,
+                    words_left,
+                    tries,
+                    n: position.station,
+                    a: position.subaddress,
+                    incoming_mark: marks.incoming,
+                    outgoing_mark: marks.outgoing,
+                    ..Record::default()
+                };
+                record.operations = admitted.counts.w - most_still_possible(admitted, &record);
+                assert!(fits(admitted, &record));
+                records.push(record);
+            }
+        }
+    }
+    records
+}
+
+/// The positions that an instruction's operations can have.
+fn places(camac: &Camac, tries: u64) -> Vec<(u64, Position)> {
+    let first = Some(camac.position());
+    let next = |position: &Position| match camac.q_mode {
+        QMode::Scan => position.after_done(),
+        _ => None,
+    };
+    std::iter::successors(first, next)
+        .map(|position| (tries, position))
+        .collect()
+}
+
 fn camac_at(admitted: &Admitted, visit: usize) -> Option<Camac> {
     match admitted.list.instructions[admitted.walk[visit]] {
         Instruction::Camac(camac) => Some(camac),

@@ -43,7 +43,19 @@ pub const MANNERS: [Manner; 6] = [
 /// A row of at most `most` well-formed replies that stops when the run ends.
 pub fn row(rng: &mut Rng, admitted: &Admitted, manner: Manner, most: usize) -> Vec<u8> {
     let mut incoming = vec![0; admitted.counts.b as usize];
-    let mut record = begin(admitted, &mut incoming);
+    let record = begin(admitted, &mut incoming);
+    row_from(rng, admitted, record, manner, most)
+}
+
+/// The same from a record on, which fits or has ended.
+pub fn row_from(
+    rng: &mut Rng,
+    admitted: &Admitted,
+    mut record: Record,
+    manner: Manner,
+    most: usize,
+) -> Vec<u8> {
+    let mut incoming = vec![0; admitted.counts.b as usize];
     let mut row = Vec::new();
     while !record.ended && row.len() < 8 * most {
         let bytes = next_reply(rng, admitted, &record, manner);

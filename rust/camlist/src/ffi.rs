@@ -1,0 +1,217 @@
+//! The C interface in numbers, as `include/camlist.h` has it, on slices and arrays.
+//!
+//! What each number of an answer means stands in the header; the types of this crate are
+//! made of them.
+
+/// Numbers of admission's answer: number, place, W, B, O.
+pub const ADMIT_NUMBERS: usize = 5;
+
+/// Numbers of the whole run's answer: number, place, taken, then the record.
+pub const RUN_NUMBERS: usize = 16;
+
+/// Numbers of a record: ended, instruction, words left, tries, N, A, incoming mark, outgoing
+/// mark, operations, status, note's buffer, offset and length.
+pub const RECORD_NUMBERS: usize = 13;
+
+/// Numbers of the answer of start and of step: number, place, crate, N, A, F, data.
+pub const CALL_NUMBERS: usize = 7;
+
+/// Numbers of the answer of steps: number, place, taken, crate, N, A, F, data.
+pub const STEPS_NUMBERS: usize = 8;
+
+/// Bytes of a code's name, blanks behind it included.
+pub const NAME_BYTES: usize = 16;
+
+/// The symbols of the library.
+pub mod raw {
+    use super::*;
+
+    extern "C" {
+        pub fn camlist_admit_v1(
+            list: *const u8,
+            list_len: usize,
+            incoming_len: u64,
+            outgoing_len: u64,
+            answer: *mut [u64; ADMIT_NUMBERS],
+        );
+
+        pub fn camlist_run_v1(
+            list: *const u8,
+            list_len: usize,
+            incoming: *mut u8,
+            incoming_len: usize,
+            outgoing: *const u8,
+            outgoing_len: usize,
+            replies: *const u8,
+            replies_len: usize,
+            answer: *mut [u64; RUN_NUMBERS],
+        );
+
+        pub fn camlist_start_v1(
+            list: *const u8,
+            list_len: usize,
+            incoming: *mut u8,
+            incoming_len: usize,
+            outgoing: *const u8,
+            outgoing_len: usize,
+            record: *mut [u64; RECORD_NUMBERS],
+            answer: *mut [u64; CALL_NUMBERS],
+        );
+
+        pub fn camlist_step_v1(
+            list: *const u8,
+            list_len: usize,
+            record: *mut [u64; RECORD_NUMBERS],
+            incoming: *mut u8,
+            incoming_len: usize,
+            outgoing: *const u8,
+            outgoing_len: usize,
+            reply: *const u8,
+            reply_len: usize,
+            answer: *mut [u64; CALL_NUMBERS],
+        );
+
+        pub fn camlist_steps_v1(
+            list: *const u8,
+            list_len: usize,
+            record: *mut [u64; RECORD_NUMBERS],
+            incoming: *mut u8,
+            incoming_len: usize,
+            outgoing: *const u8,
+            outgoing_len: usize,
+            replies: *const u8,
+            replies_len: usize,
+            answer: *mut [u64; STEPS_NUMBERS],
+        );
+
+        pub fn camlist_code_name_v1(code: u64, name: *mut [u8; NAME_BYTES]);
+    }
+}
+
+/// Admission of a list with two buffer lengths.
+pub fn admit(list: &[u8], incoming_len: u64, outgoing_len: u64) -> [u64; ADMIT_NUMBERS] {
+    let mut answer = [0; ADMIT_NUMBERS];
+    // SAFETY: the slice and the array are valid for the call, and the array is ours alone.
+    unsafe {
+        raw::camlist_admit_v1(
+            list.as_ptr(),
+            list.len(),
+            incoming_len,
+            outgoing_len,
+            &mut answer,
+        );
+    }
+    answer
+}
+
+/// The whole run over a row of replies.
+pub fn run(
+    list: &[u8],
+    incoming: &mut [u8],
+    outgoing: &[u8],
+    replies: &[u8],
+) -> [u64; RUN_NUMBERS] {
+    let mut answer = [0; RUN_NUMBERS];
+    // SAFETY: the slices and the array are valid for the call; nothing overlaps `incoming`,
+    // which is lent to us alone, nor the array, which is ours.
+    unsafe {
+        raw::camlist_run_v1(
+            list.as_ptr(),
+            list.len(),
+            incoming.as_mut_ptr(),
+            incoming.len(),
+            outgoing.as_ptr(),
+            outgoing.len(),
+            replies.as_ptr(),
+            replies.len(),
+            &mut answer,
+        );
+    }
+    answer
+}
+
+/// Start: writes the record.
+pub fn start(
+    list: &[u8],
+    incoming: &mut [u8],
+    outgoing: &[u8],
+    record: &mut [u64; RECORD_NUMBERS],
+) -> [u64; CALL_NUMBERS] {
+    let mut answer = [0; CALL_NUMBERS];
+    // SAFETY: as in `run`; the record is lent to us alone.
+    unsafe {
+        raw::camlist_start_v1(
+            list.as_ptr(),
+            list.len(),
+            incoming.as_mut_ptr(),
+            incoming.len(),
+            outgoing.as_ptr(),
+            outgoing.len(),
+            record,
+            &mut answer,
+        );
+    }
+    answer
+}
+
+/// Step: takes one reply; the record holds the new state afterwards.
+pub fn step(
+    list: &[u8],
+    record: &mut [u64; RECORD_NUMBERS],
+    incoming: &mut [u8],
+    outgoing: &[u8],
+    reply: &[u8],
+) -> [u64; CALL_NUMBERS] {
+    let mut answer = [0; CALL_NUMBERS];
+    // SAFETY: as in `start`.
+    unsafe {
+        raw::camlist_step_v1(
+            list.as_ptr(),
+            list.len(),
+            record,
+            incoming.as_mut_ptr(),
+            incoming.len(),
+            outgoing.as_ptr(),
+            outgoing.len(),
+            reply.as_ptr(),
+            reply.len(),
+            &mut answer,
+        );
+    }
+    answer
+}
+
+/// Steps: takes a row of replies, until the run ends or they run out.
+pub fn steps(
+    list: &[u8],
+    record: &mut [u64; RECORD_NUMBERS],
+    incoming: &mut [u8],
+    outgoing: &[u8],
+    replies: &[u8],
+) -> [u64; STEPS_NUMBERS] {
+    let mut answer = [0; STEPS_NUMBERS];
+    // SAFETY: as in `start`.
+    unsafe {
+        raw::camlist_steps_v1(
+            list.as_ptr(),
+            list.len(),
+            record,
+            incoming.as_mut_ptr(),
+            incoming.len(),
+            outgoing.as_ptr(),
+            outgoing.len(),
+            replies.as_ptr(),
+            replies.len(),
+            &mut answer,
+        );
+    }
+    answer
+}
+
+/// The name of a code, with blanks behind it; blanks alone above 15.
+pub fn code_name(code: u64) -> [u8; NAME_BYTES] {
+    let mut name = [0; NAME_BYTES];
+    // SAFETY: the array is valid for the call and ours alone.
+    unsafe { raw::camlist_code_name_v1(code, &mut name) };
+    name
+}

@@ -1,0 +1,162 @@
+//! Start, step and steps in numbers, by hand; steps held against one step for each reply.
+
+use reference::cases::by_hand::*;
+use reference::cases::calls::call_case;
+use reference::host::{run_numbers, start_numbers, step_numbers, steps_numbers};
+use reference::{Note, Record};
+
+const CASES: u64 = if cfg!(debug_assertions) {
+    3_000
+} else {
+    50_000
+};
+
+/// Two 16-bit words read in repeat from crate 3, N 6, A 0, F 2, with R = 3.
+fn words() -> Vec<u8> {
+    one(&double(0x0C02_0332, 0xFFFF_FFFE))
+}
+
+/// After one try of the first word.
+const TRIED: [u64; 13] = [0, 0, 2, 1, 6, 0, 0, 0, 1, 0x1_0000, 0, 0, 0];
+
+#[test]
+fn a_run_by_hand() {
+    let (list, mut incoming) = (words(), [0xEE; 4]);
+    let (mut record, answer) = start_numbers(&list, &mut incoming, &[]);
+    assert_eq!(record, [0, 0, 2, 0, 6, 0, 0, 0, 0, 0, 0, 0, 0]);
+    let wanted = [0, 0, 3, 6, 0, 2, 0];
+    assert_eq!(answer, wanted);
+    let answer = step_numbers(&list, &mut record, &mut incoming, &[], &answers(&[X]));
+    assert_eq!((record, answer), (TRIED, wanted));
+    let row = [ok(0x1234), ok(0x5678), kind(1)].concat();
+    let answer = steps_numbers(&list, &mut record, &mut incoming, &[], &row);
+    assert_eq!(answer, [0, 0, 2, 0, 0, 0, 0, 0]);
+    assert_eq!(record, [1, 1, 0, 0, 0, 0, 4, 0, 3, 0x1_0080, 0, 2, 2]);
+    assert_eq!(incoming, [0x34, 0x12, 0x78, 0x56]);
+    let answer = steps_numbers(&list, &mut record, &mut incoming, &[], &row);
+    assert_eq!(answer, [24, 0, 0, 0, 0, 0, 0, 0]);
+}
+
+/// An empty row changes nothing and says what is wanted.
+#[test]
+fn steps_over_no_reply() {
+    let (list, mut incoming, mut record) = (words(), [0xEE; 4], TRIED);
+    let answer = steps_numbers(&list, &mut record, &mut incoming, &[], &[]);
+    assert_eq!(answer, [0, 0, 0, 3, 6, 0, 2, 0]);
+    assert_eq!((record, incoming), (TRIED, [0xEE; 4]));
+}
+
+/// "22 .. a row with such a reply anywhere or not a multiple of 8", past the end too.
+#[test]
+fn the_whole_row_is_checked_first() {
+    let rows = [
+        [ok(1), ok(2), [4; 8]].concat(),
+        [ok(1), ok(2), ok(3)].concat()[..23].to_vec(),
+        vec![0; 7],
+    ];
+    for row in rows {
+        let (list, mut incoming, mut record) = (words(), [0xEE; 4], TRIED);
+        let answer = steps_numbers(&list, &mut record, &mut incoming, &[], &row);
+        assert_eq!(answer, [22, 0, 0, 0, 0, 0, 0, 0]);
+        assert_eq!((record, incoming), (TRIED, [0xEE; 4]));
+    }
+}
+
+/// Numbers too wide for their part don't fit; any first number but 0 is an ended one, which
+/// comes before; a record refused keeps its numbers.
+#[test]
+fn numbers_too_wide() {
+    let with = |at: usize, number| {
+        let mut record = TRIED;
+        record[at] = number;
+        record
+    };
+    let mut both = with(0, 2);
+    both[4] += 256;
+    for (given, number) in [
+        (with(4, 6 + 256), 23),
+        (with(4, 6 + (1 << 32)), 23),
+        (with(5, 256), 23),
+        (with(9, 1 << 32 | 0x1_0000), 23),
+        (with(9, 1 << 63), 23),
+        (with(10, 256), 23),
+        (with(0, 1), 24),
+        (with(0, 2), 24),
+        (with(0, 256), 24),
+        (with(0, u64::MAX), 24),
+        (both, 24),
+    ] {
+        let (list, mut incoming, mut record) = (words(), [0xEE; 4], given);
+        let answer = step_numbers(&list, &mut record, &mut incoming, &[], &ok(1));
+        assert_eq!(answer, [number, 0, 0, 0, 0, 0, 0], "{given:?}");
+        assert_eq!((record, incoming), (given, [0xEE; 4]));
+        // Admission's refusals come first.
+        let answer = step_numbers(&list, &mut record, &mut incoming[..3], &[], &ok(1));
+        assert_eq!((answer[0], record), (20, given));
+    }
+}
+
+/// "a refused start .. gives a record marked ended, all else zero."
+#[test]
+fn a_refused_start() {
+    let (record, answer) = start_numbers(&list(M01), &mut [], &[]);
+    assert_eq!(record, [1, 0, 0, 0, 0, 0, 0, 0, 0, 0, 0, 0, 0]);
+    assert_eq!(answer, [8, 18, 0, 0, 0, 0, 0]);
+}
+
+#[test]
+fn records_from_their_numbers() {
+    let record = Record {
+        ended: true,
+        instruction: 1,
+        words_left: 2,
+        tries: 3,
+        n: 4,
+        a: 5,
+        incoming_mark: 6,
+        outgoing_mark: 7,
+        operations: 8,
+        status: 9,
+        note: Note {
+            buffer: 10,
+            offset: 11,
+            length: 12,
+        },
+    };
+    let numbers = [1, 1, 2, 3, 4, 5, 6, 7, 8, 9, 10, 11, 12];
+    assert_eq!(record.numbers(), numbers);
+    assert_eq!(Record::from_numbers(&numbers), Some(record));
+}
+
+/// Steps equal one step for each reply, and start with steps equals the whole run.
+#[test]
+fn steps_equal_step_by_step() {
+    for number in 0..CASES {
+        let case = call_case(2, number);
+        let (list, outgoing) = (&case.list, &case.outgoing);
+        let (mut record, mut incoming) = (case.record, case.incoming.clone());
+        let steps = steps_numbers(list, &mut record, &mut incoming, outgoing, &case.row);
+        if steps[0] == 0 {
+            let after = (record, incoming);
+            let (mut record, mut incoming) = (case.record, case.incoming.clone());
+            let mut taken = 0;
+            for reply in case.row.chunks(8).take(steps[2] as usize) {
+                let [refused, ..] = step_numbers(list, &mut record, &mut incoming, outgoing, reply);
+                assert_eq!(refused, 0);
+                taken += 1;
+            }
+            assert!(record[0] == 1 || taken == case.row.len() / 8);
+            assert_eq!((record, incoming), after, "call_case(2, {number})");
+        }
+        let mut incoming = case.incoming.clone();
+        let [refused, _, taken, whole @ ..] = run_numbers(list, &mut incoming, outgoing, &case.row);
+        if refused == 0 {
+            let mut stepped = case.incoming.clone();
+            let (mut record, _) = start_numbers(list, &mut stepped, outgoing);
+            let ended = record[0];
+            let steps = steps_numbers(list, &mut record, &mut stepped, outgoing, &case.row);
+            assert_eq!(steps[0], 24 * ended);
+            assert_eq!((steps[2], record, stepped), (taken, whole, incoming));
+        }
+    }
+}
