@@ -7,8 +7,8 @@
  * time (an adapter's FIFO) gives them to camlist_steps, which goes on from a record as camlist_step does. camlist_run is start and all replies in
  * one call: it begins at the list's start each time, and camlist_step goes on from the record in its answer.
  *
- * Cost. Every call reads the whole list and follows its walk anew: some 9,000 instructions for a short list, up to 0.6 million for 4,096
- * instructions. For many replies prefer camlist_steps or camlist_run, which read it once and take some 20 to 300 instructions a reply.
+ * Cost. Every call reads the whole list and follows its walk anew: a step takes some 10,000 instructions for a short list and 0.9 million for one
+ * of 4,000 fields. For many replies prefer camlist_steps or camlist_run, which read it once and take some 20 to 300 instructions a reply.
  *
  * Arguments. A slice is a pointer and its length in bytes; NULL is fine where the length is 0. Byte slices need no alignment, arrays of uint64_t
  * that of uint64_t; arrays may not be NULL. What a call writes (`incoming`, `record`, `answer`, `name`) overlaps no other argument; slices that
@@ -133,7 +133,7 @@ extern "C" {
 
 /* The calls -------------------------------------------------------------------------------------------------------------------------------- */
 
-/* Whether the list is well formed and fits buffers of these two lengths, and what it can need at most. */
+/* Whether the list is well formed and fits buffers of these two lengths, which need not exist, and what it can need at most. */
 void camlist_admit(const uint8_t *list, size_t list_len, uint64_t incoming_len, uint64_t outgoing_len,
                    uint64_t answer[CAMLIST_ADMIT_NUMBERS]);
 
