@@ -1,10 +1,11 @@
 -- Several replies from a record on, in the order of the code's tests: each refusal, and the row's replies taken. A record that fits is left
 -- ended or fitting by every reply, so that the steps are the replies taken and the operation wanted is the table's.
-use Prim.Native.Nat.{ℕ, _+_, _/_}
-use mathlib.Core.Path.{_≡_, sym, ap, _∙_, subst}
+use Prim.Native.Nat.{ℕ, _+_, _*_, _/_}
+use mathlib.Core.Path.{_≡_, sym, ap, ap₂, _∙_, subst}
 use mathlib.Core.Logic.{inl, inr}
 use mathlib.Core.Bool.{true, false}
 use mathlib.Core.List.{List, [], _∷_}
+use native.Mathlib.Omega.{arith}
 use lib.ListN.{length}
 use Rattle.base.proofs.Tests.{on}
 use Rattle.base.specs.declared.Refusal.{Refusal}
@@ -94,9 +95,9 @@ module _ (list incoming outgoing row : List ℕ) (r : Record) where
         pub steps-22 : allFormed (repliesIn row) ≡ false → stepsPrepared (ready plan) list row before ≡ refusedSteps (refusal 22) before
         steps-22 e = rw (e, fit, waits)
 
-        module _ (formed : allFormed (repliesIn row) ≡ true) (last : Record) (at : ℕ) (b : List ℕ)
-            (e : (out : List ℕ) → rowFrom plan row 0 (stateOf r incoming out) ≡ stoppedAt at (stateOf last b out)) where
-          takes : takesOver plan (repliesIn row) 0 before ≡ stoppedAt at (stateOf last b outgoing)
+        module _ (formed : allFormed (repliesIn row) ≡ true) (last : Record) (taken : ℕ) (b : List ℕ)
+            (e : (out : List ℕ) → rowFrom plan row 0 (stateOf r incoming out) ≡ stoppedAt (taken * 8) (stateOf last b out)) where
+          takes : takesOver plan (repliesIn row) 0 before ≡ stoppedAt (taken * 8) (stateOf last b outgoing)
           unfolding rowFrom
           takes = e outgoing
 
@@ -113,13 +114,14 @@ module _ (list incoming outgoing row : List ℕ) (r : Record) where
 
           pub steps-taken : stepsPrepared (ready plan) list row before ≡ record {
             refusal = notRefused;
-            taken = at / 8;
+            taken = taken;
             wanted = wantedBy list table last outgoing;
             state = stateOf last b outgoing;
           }
           steps-taken =
+              let n : taken * 8 / 8 ≡ taken = omega arith in
               by-row ∙ ap (takenSteps plan)
               (steps-takes list plan (sound list table s counts (length incoming) (length outgoing) x) (repliesIn row) 0 before (x .prepared) formed (inr fit)
               ∙ takes)
-              ∙ ap (λ (w : Operation). record { refusal = notRefused; taken = at / 8; wanted = w; state = stateOf last b outgoing })
+              ∙ ap₂ (λ (k : ℕ) (w : Operation). record { refusal = notRefused; taken = k; wanted = w; state = stateOf last b outgoing }) n
               (sym (wanted-by list table s counts (length incoming) (length outgoing) x last b outgoing last-stage))

@@ -5,7 +5,6 @@ ghost use lib.Bits.{bitAnd};
 ghost use lib.Dec.{eqb};
 ghost use lib.ListN.{length, getD};
 ghost use Rattle.base.specs.Checks.{if_then_else_};
-ghost use Rattle.reply.specs.Replies.{repliesIn, allFormed};
 ghost use Rattle.whole_run.specs.model.Words.{ReadAs, StretchReadAs, BitsOver, gatheredBits, raisedOver, raisedBits};
 
 // What a row is: not formed, or formed, with a number of answers before any reply of another kind.
@@ -16,21 +15,6 @@ pub enum RowRead {
 
 // Bits that are zero in each formed answer: kind, flags 6 and 7, bytes 2, 3 and 7.
 const ZERO_IN_ANSWERS: u64 = 0xff00_0000_ffff_c0ff;
-
-// Whether a row has only replies, to its end.
-pub fn is_row_formed(row: &[u8]) -> bool
-    ensures { λ b. ⌜ b ≡ allFormed (repliesIn (now (row .entry))) ⌝ }
-{
-    let count = row.len() / 8;
-    let mut k: usize = 0;
-    while k < count {
-        if !reply::is_formed_at(row, k * 8) {
-            return false;
-        }
-        k += 1;
-    }
-    count * 8 == row.len()
-}
 
 // The bits that any of some replies has.
 fn any_bits(row: &[u8], from: usize, to: usize) -> u64

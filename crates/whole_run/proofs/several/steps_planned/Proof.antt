@@ -1,17 +1,14 @@
 -- `steps_planned` is `stepsPrepared`: each return is one case of 24, 23, 22 and the row's replies taken.
-use Prim.Native.Nat.{_/_}
-use mathlib.Core.Path.{_≡_, sym, ap, _∙_}
+use mathlib.Core.Path.{_≡_, ap, subst}
 use mathlib.Core.Logic.{inr}
 use mathlib.Core.Bool.{true}
-use borrow.Author.Tests.{not-true, not-false}
+use borrow.Author.Needs.{needs}
 use Rattle.calls.specs.Calls.{notRefused}
 use Rattle.calls.specs.declared.operations.Operation.{Operation}
 use Rattle.step.proofs.PlanLaws.{prepared-planned}
 use Rattle.step.proofs.Search.{unfit-by, alive-by}
-use Rattle.whole_run.proofs.RowLaws.{formed-start}
-use Rattle.whole_run.proofs.VisitTurn.{next-here}
+use Rattle.whole_run.specs.model.Words.{ReadAs}
 use Rattle.whole_run.proofs.SeveralReplies.{steps-by, grounds-here, steps-24, steps-23, steps-22, last-asked, steps-taken}
-use borrow.Author.Needs.{needs}
 use Rattle.whole_run.proofs.several.steps_planned.Statement.{statement}
 use Rattle.whole_run.proofs.several.steps_planned.Tie as tie
 
@@ -22,17 +19,16 @@ returns : tie.Need-returns
 returns c =
     let start = c .before .before .before .before .before .before .before in
     let over : start .args .r .ended ≡ true = search needs in
-    steps-by _ _ _ _ _ _ _ _ (c .refuse-steps-by .ensures)
-    (steps-24 (start .args .list .now) (start .args .incoming .now) (start .args .outgoing .now) (start .args .row .now) (start .args .r) _ _ _ (start .pre) over)
+    steps-by _ _ _ _ _ _ _ _ (c .refuse-steps-by .ensures) (steps-24 (start .args .list .now) (start .args .incoming .now) (start .args .outgoing .now) (start .args .row .now) (start .args .r) _ _ _ (start .pre) over)
 
 record-fits-requires : tie.Need-record-fits-requires
 record-fits-requires c κs = prepared-planned _ _ _ _ _ _ (c .before .before .before .before .before .before .before .pre)
 
-enum-known-fitting : tie.Need-enum-known-fitting
-enum-known-fitting c = search needs
-
 enum-told : tie.Need-enum-told
 enum-told c = search needs
+
+enum-told-2 : tie.Need-enum-told-2
+enum-told-2 c = search needs
 
 refuse-steps-by-requires-2 : tie.Need-refuse-steps-by-requires-2
 refuse-steps-by-requires-2 c κs = search needs
@@ -42,10 +38,16 @@ returns-2 c =
     let start = c .before .before .before .before .before .before .before .before .before .before .before in
     steps-by _ _ _ _ _ _ _ _ (c .refuse-steps-by2 .ensures)
     (steps-23 (start .args .list .now) (start .args .incoming .now) (start .args .outgoing .now) (start .args .row .now) (start .args .r) _ _ _ (start .pre) (c .before .before .before .before .before .if1 .left)
-    (unfit-by _ _ (c .before .enum-told .given .1) (c .before .before .before .record-fits .ensures)))
+    (unfit-by _ _ (c .before .enum-told2 .given .1) (c .before .before .before .record-fits .ensures)))
 
-is-row-formed-requires : tie.Need-is-row-formed-requires
-is-row-formed-requires c κs = search needs
+read-row-requires : tie.Need-read-row-requires
+read-row-requires c κs = search needs
+
+enum-known-read : tie.Need-enum-known-read
+enum-known-read c = search needs
+
+enum-told-3 : tie.Need-enum-told-3
+enum-told-3 c = search needs
 
 refuse-steps-by-requires-3 : tie.Need-refuse-steps-by-requires-3
 refuse-steps-by-requires-3 c κs = search needs
@@ -56,20 +58,19 @@ returns-3 c =
     let at-record-fits = at-fitting .before .before in
     let at-if1 = at-record-fits .before .before in
     let start = at-if1 .before .before .before .before .before .before in
-    let alive = alive-by (at-fitting .fitting .given .1) (at-record-fits .record-fits .ensures) in
+    let alive = alive-by (at-fitting .enum-told .given .1) (at-record-fits .record-fits .ensures) in
     steps-by _ _ _ _ _ _ _ _ (c .refuse-steps-by3 .ensures)
     (steps-22 (start .args .list .now) (start .args .incoming .now) (start .args .outgoing .now) (start .args .row .now) (start .args .r) _ _ _ (start .pre) (at-if1 .if1 .left) (alive .fit)
-    (sym (c .before .before .is-row-formed .ensures) ∙ not-true _ (c .before .if2 .taken)))
+    (subst (ReadAs (start .args .row .now)) (c .before .enum-told3 .given .1) (c .before .before .before .read-row .ensures)))
 
 run-replies-requires : tie.Need-run-replies-requires
 run-replies-requires c κs =
-    let at-fitting = c .before .before .before .before in
+    let at-fitting = c .before .before .before .before .before in
     let at-record-fits = at-fitting .before .before in
     let at-if1 = at-record-fits .before .before in
     let start = at-if1 .before .before .before .before .before .before in
-    let alive = alive-by (at-fitting .fitting .given .1) (at-record-fits .record-fits .ensures) in
-    let grounds = grounds-here (start .args .list .now) (start .args .incoming .now) (start .args .outgoing .now) (start .args .row .now) (start .args .r) _ _ _ (start .pre) in
-    (grounds, ((formed-start _ (sym (c .before .before .is-row-formed .ensures) ∙ not-false _ (c .before .if2 .left)), inr (alive .fit)), next-here _ _ _ _ grounds _ _ alive))
+    let alive = alive-by (at-fitting .enum-told .given .1) (at-record-fits .record-fits .ensures) in
+    (grounds-here (start .args .list .now) (start .args .incoming .now) (start .args .outgoing .now) (start .args .row .now) (start .args .r) _ _ _ (start .pre), (inr (alive .fit), subst (ReadAs (start .args .row .now)) (c .before .before .read .given .1) (c .before .before .before .before .read-row .ensures)))
 
 wanted-at-requires : tie.Need-wanted-at-requires
 wanted-at-requires c κs =
@@ -77,9 +78,9 @@ wanted-at-requires c κs =
     let at-record-fits = at-fitting .before .before in
     let at-if1 = at-record-fits .before .before in
     let start = at-if1 .before .before .before .before .before .before in
-    let alive = alive-by (at-fitting .fitting .given .1) (at-record-fits .record-fits .ensures) in
-    last-asked (start .args .list .now) (start .args .incoming .now) (start .args .outgoing .now) (start .args .row .now) (start .args .r) _ _ _ (start .pre) (at-if1 .if1 .left) (alive .fit) (sym (c .before .before .before .before .before .before .before .is-row-formed .ensures) ∙ not-false _ (c .before .before .before .before .before .before .if2 .left))
-    _ _ _ (c .before .before .before .before .run-replies .ensures)
+    let alive = alive-by (at-fitting .enum-told .given .1) (at-record-fits .record-fits .ensures) in
+    last-asked (start .args .list .now) (start .args .incoming .now) (start .args .outgoing .now) (start .args .row .now) (start .args .r) _ _ _ (start .pre) (at-if1 .if1 .left) (alive .fit)
+    (subst (ReadAs (start .args .row .now)) (c .before .before .before .before .before .before .read .given .1) (c .before .before .before .before .before .before .before .before .read-row .ensures) .0) _ _ _ (c .before .before .before .run-replies .ensures)
 
 same-length : tie.Need-same-length
 same-length c = search needs
@@ -90,12 +91,12 @@ returns-4 c =
     let at-record-fits = at-fitting .before .before in
     let at-if1 = at-record-fits .before .before in
     let start = at-if1 .before .before .before .before .before .before in
-    let alive = alive-by (at-fitting .fitting .given .1) (at-record-fits .record-fits .ensures) in
-    let v = c .before .before .before .before .before .run-replies .result in
+    let alive = alive-by (at-fitting .enum-told .given .1) (at-record-fits .record-fits .ensures) in
+    let v = c .before .before .before .before .run-replies .result in
     steps-by _ _ _ _ _ _ _ _
-    (ap (λ (w : Operation). record { refusal = notRefused; taken = v .at / 8; run = v .run; wanted = w }) (c .wanted-at .ensures))
-    (steps-taken (start .args .list .now) (start .args .incoming .now) (start .args .outgoing .now) (start .args .row .now) (start .args .r) _ _ _ (start .pre) (at-if1 .if1 .left) (alive .fit) (sym (c .before .before .before .before .before .before .before .before .is-row-formed .ensures) ∙ not-false _ (c .before .before .before .before .before .before .before .if2 .left))
-    _ _ _ (c .before .before .before .before .before .run-replies .ensures))
+    (ap (λ (w : Operation). record { refusal = notRefused; taken = v .taken; run = v .run; wanted = w }) (c .wanted-at .ensures))
+    (steps-taken (start .args .list .now) (start .args .incoming .now) (start .args .outgoing .now) (start .args .row .now) (start .args .r) _ _ _ (start .pre) (at-if1 .if1 .left) (alive .fit)
+    (subst (ReadAs (start .args .row .now)) (c .before .before .before .before .before .before .before .read .given .1) (c .before .before .before .before .before .before .before .before .before .read-row .ensures) .0) _ _ _ (c .before .before .before .before .run-replies .ensures))
 
 pub steps-planned-spec : {M : Type 1} → statement M
 steps-planned-spec =
@@ -104,11 +105,13 @@ steps-planned-spec =
     refuse-steps-by-requires
     returns
     record-fits-requires
-    enum-known-fitting
     enum-told
+    enum-told-2
     refuse-steps-by-requires-2
     returns-2
-    is-row-formed-requires
+    read-row-requires
+    enum-known-read
+    enum-told-3
     refuse-steps-by-requires-3
     returns-3
     run-replies-requires
