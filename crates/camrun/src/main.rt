@@ -6,6 +6,7 @@ use calls::Yield;
 use reply::Record;
 use walk::Admission;
 use walk::Counts;
+use whole_run::RowRead;
 ghost use Rattle.io.specs.Counts.{Counts as CountsBytes};
 ghost use Rattle.calls.specs.Calls.{stepOf, Yields};
 ghost use Rattle.reply.specs.Effect.{stateOf};
@@ -51,14 +52,15 @@ fn run_list(list: &[u8], replies: &[u8], outgoing: &[u8]) {
         }
         Admission::Admitted(counts) => {
             print_admitted(counts);
-            if whole_run::is_row_formed(replies) {
-                run_replies(list, replies, outgoing);
-            } else {
+            let read = whole_run::read_row(replies);
+            let RowRead::Answers(_) = read else {
                 print_refused(Refusal {
                     number: NOT_FORMED,
                     place: 0,
                 });
-            }
+                return;
+            };
+            run_replies(list, replies, outgoing);
         }
     }
 }
