@@ -1,5 +1,5 @@
 -- What a field that has passed its checks shows of its parts: they lie in the list, and the longwords of a CAMAC field passed 6 to 9.
-use Prim.Native.Nat.{ℕ, zero, suc, _+_, _≤_}
+use Prim.Native.Nat.{ℕ, zero, suc, _+_, _≤_, _<_}
 use mathlib.Core.Path.{_≡_, refl, sym, _∙_}
 use mathlib.Core.Bool.{_||_, false}
 use mathlib.Core.List.{List}
@@ -22,6 +22,9 @@ use Rattle.listfile.proofs.FieldLaws.{read-head, Lies, field-lies, long
 module _ (list : List ℕ) (at : ℕ) (p : FieldPassed list at) where
   lies : Lies list at (p .count)
   lies = field-lies list at (p .count) (instructionAt list at) (p .read)
+
+  pub tag-inside : at < length list
+  tag-inside = omega (arith, lies .inside)
 
   pub jump-inside : tagAt list at ≡ JumpTag → at + 5 ≤ length list
   jump-inside t =

@@ -85,7 +85,7 @@ pub fn turn_at(list: &[u8], place: u16, here: Spot, limit: u64, s: Counts) -> Tu
     ensures { λ r. ⌜ r ≡ turnOf limit (instructionAt (now (list .entry)) place) here s ⌝ }
 {
     let at = place as usize;
-    let tag = listfile::tag_at(list, at);
+    let tag = listfile::tag_in(list, at);
     match tag {
         Tag::CamacTag => Turn::To(spot_after(here), after_field(limit, list, at, s)),
         Tag::JumpTag => Turn::To(jump_to(listfile::target_at(list, at), here), s),
