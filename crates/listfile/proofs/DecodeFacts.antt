@@ -11,7 +11,7 @@ use borrow.Author.Tests.{leb-true, leb-false, ltb-false, eqb-false, not-false}
 use lib.Dec.{leb, ltb, eqb}
 use lib.ListN.{length}
 use Rattle.base.specs.Checks.{if_then_else_, _gives_}
-use Rattle.camac.specs.Words.{modeIn, qmodeIn, addressIn, wideIn, halfwords, blockWords, transferIn, commandIn, qmodeOf, addressOf, wordsOf, isScanIn, zeroBitSet, badAddress, badMode, badCount, aboveWord, badSecond, aboveP, camacFault, decodedBy, decodeOf}
+use Rattle.camac.specs.Words.{modeIn, qmodeIn, addressIn, wideIn, halfwords, blockWords, transferIn, commandIn, addressOf, wordsOf, isScanIn, zeroBitSet, badAddress, badMode, badCount, aboveWord, badSecond, aboveP, camacFault, decodedBy, decodeOf}
 use Rattle.camac.specs.Modes.{isScan}
 use Rattle.camac.proofs.BitLaws.{command-qmode, command-address}
 use Rattle.camac.specs.declared.modes.QMode.{QMode}
