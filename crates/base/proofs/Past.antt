@@ -3,7 +3,7 @@ use Prim.Native.Nat.{ℕ, _+_, _*_, _≤_}
 use mathlib.Core.Path.{_≡_}
 use mathlib.Core.List.{List}
 use native.Mathlib.Omega.{arith}
-use lib.ListN.{length, getD, List·getD-eq-default}
+use lib.ListN.{length, List·getD-eq-default}
 use Rattle.base.specs.Bytes.{byteAt, shortAt, longAt}
 
 pub byte-past : (l : List ℕ) (i : ℕ) → length l ≤ i → byteAt l i ≡ 0

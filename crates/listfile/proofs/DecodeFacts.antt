@@ -7,11 +7,11 @@ use mathlib.Core.Bool.{Bool, true, false, _&&_, _||_, not}
 use mathlib.Core.List.{List, [], _∷_}
 use mathlib.Core.Option.{Option, none, some}
 use native.Mathlib.Omega.{arith}
-use borrow.Author.Tests.{leb-true, ltb-false, eqb-false, not-false}
+use borrow.Author.Tests.{leb-true, leb-false, ltb-false, eqb-false, not-false}
 use lib.Dec.{leb, ltb, eqb}
 use lib.ListN.{length}
 use Rattle.base.specs.Checks.{if_then_else_, _gives_}
-use Rattle.camac.specs.Words.{modeIn, qmodeIn, addressIn, wideIn, halfwords, blockWords, transferIn, commandIn, qmodeOf, addressOf, wordsOf, isScanIn, zeroBitSet, badAddress, badMode, badCount, aboveWord, badSecond, aboveP, camacFault, decodedBy, decodeOf}
+use Rattle.camac.specs.Words.{modeIn, qmodeIn, addressIn, wideIn, halfwords, blockWords, transferIn, commandIn, addressOf, wordsOf, isScanIn, zeroBitSet, badAddress, badMode, badCount, aboveWord, badSecond, aboveP, camacFault, decodedBy, decodeOf}
 use Rattle.camac.specs.Modes.{isScan}
 use Rattle.camac.proofs.BitLaws.{command-qmode, command-address}
 use Rattle.camac.specs.declared.modes.QMode.{QMode}
@@ -24,6 +24,7 @@ use Rattle.camac.specs.declared.words.Decoded.the-variants.{Carried}
 use Rattle.camac.specs.declared.words.Decoded.the-variants as camac
 use Rattle.base.proofs.Bools.{and-left, and-right, or-false-left, or-false-right, or-first}
 use Rattle.base.proofs.Checks.{passed}
+use Rattle.base.proofs.Tests.{on}
 use Rattle.base.specs.Bytes.{byteAt, shortAt, longAt, Bytes}
 use Rattle.listfile.specs.Fields.{bodyLength, nextField, tagAt, firstAt, secondAt, headFault, carriedBy, bodyOf, afterHead, fieldOf, firstFault, Field, Fields, faulty, fields, joined, fieldsFrom, firstBadJump, Program, program, afterJumps, afterFields, afterFirst, programOf}
 use Rattle.listfile.specs.declared.field.Instruction.{Instruction}
@@ -34,6 +35,7 @@ use Rattle.listfile.specs.declared.field.Tag.{Tag}
 use Rattle.listfile.specs.declared.field.Tag.the-variants.{CamacTag, JumpTag, LiteralTag, HaltTag, UnknownTag}
 use Rattle.listfile.proofs.FirstLaws.{first-limit}
 use Rattle.listfile.proofs.FieldLaws.{field-lies}
+use Rattle.listfile.proofs.Unrolled.{fields-none, fields-end, fields-on}
 use Rattle.listfile.proofs.Sound.{SoundScan, SoundCommand, SoundInstruction, SoundFields}
 
 -- Numbers ----------------------------------------------------------------------------------------------------------------
@@ -167,19 +169,13 @@ field-then list at count rest fs e = go (fieldOf list at count) refl rest refl e
 -- the fields from a place on: none there, or one and those behind it
 fields-cases : (fuel : ℕ) (list : List ℕ) (at count : ℕ) (fs : List Field) → fieldsFrom (suc fuel) list at count ≡ fields fs
     → (fs ≡ []) ⊎ FieldThen list at count (fieldsFrom fuel list (nextField list at) (count + 1)) fs
-unfolding fieldsFrom
-fields-cases fuel list at count fs e = go (leb (length list) at) e
-  where
-    rest : Fields
-    rest = fieldsFrom fuel list (nextField list at) (count + 1)
-
-    go : (b : Bool) → (if b then fields [] else joined at (fieldOf list at count) rest) ≡ fields fs → (fs ≡ []) ⊎ FieldThen list at count rest fs
-    go true e = inl cc
-    go false e = inr (field-then list at count rest fs e)
+fields-cases fuel list at count fs e =
+    on (leb (length list) at)
+    (λ h. inl (let none : fields [] ≡ fields fs = sym (fields-end fuel list at count (leb-true _ _ h)) ∙ e in cc))
+    (λ h. inr (field-then list at count _ fs (sym (fields-on fuel list at count (leb-false _ _ h)) ∙ e)))
 
 fields-sound : (fuel : ℕ) (list : List ℕ) (at count : ℕ) (fs : List Field) → Bytes list → fieldsFrom fuel list at count ≡ fields fs → SoundFields fs
-unfolding fieldsFrom
-fields-sound zero list at count fs hb e = let z : _≡_ {A = ℕ} 0 1 = cc in absurd (omega arith)
+fields-sound zero list at count fs hb e = let n = sym (fields-none list at count) ∙ e in let z : _≡_ {A = ℕ} 0 1 = cc in absurd (omega arith)
 fields-sound (suc fuel) list at count fs hb e =
     go (fields-cases fuel list at count fs e) (λ gs. fields-sound fuel list (nextField list at) (count + 1) gs hb)
   where
@@ -190,8 +186,7 @@ fields-sound (suc fuel) list at count fs hb e =
 
 fields-count : (fuel : ℕ) (list : List ℕ) (at count : ℕ) (fs : List Field) → count ≤ 4096 → fieldsFrom fuel list at count ≡ fields fs
     → count + length fs ≤ 4096
-unfolding fieldsFrom
-fields-count zero list at count fs h e = let z : _≡_ {A = ℕ} 0 1 = cc in absurd (omega arith)
+fields-count zero list at count fs h e = let n = sym (fields-none list at count) ∙ e in let z : _≡_ {A = ℕ} 0 1 = cc in absurd (omega arith)
 fields-count (suc fuel) list at count fs h e =
     go (fields-cases fuel list at count fs e) (λ gs. fields-count fuel list (nextField list at) (count + 1) gs)
   where

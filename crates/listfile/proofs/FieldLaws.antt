@@ -15,7 +15,6 @@ use Rattle.listfile.specs.Fields.{bodyLength, nextField, tagAt, firstAt,
 use Rattle.listfile.specs.model.Table.{instructionBy, instructionAt, readBy}
 use Rattle.listfile.specs.declared.field.Instruction.{Instruction}
 use Rattle.listfile.specs.declared.field.Instruction.the-variants.{Camac}
-use Rattle.listfile.specs.declared.field.FieldRead.{FieldRead}
 use Rattle.listfile.specs.declared.field.FieldRead.the-variants.{Read, Refused}
 use Rattle.listfile.specs.declared.field.Tag.{Tag}
 use Rattle.listfile.specs.declared.field.Tag.the-variants.{CamacTag, JumpTag, LiteralTag, HaltTag, UnknownTag}

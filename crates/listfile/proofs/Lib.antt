@@ -1,3 +1,4 @@
+pub mod Unrolled
 pub mod FieldLaws
 pub mod FirstLaws
 pub mod PartLaws

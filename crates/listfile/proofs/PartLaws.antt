@@ -1,11 +1,10 @@
 -- What a field that has passed its checks shows of its parts: they lie in the list, and the longwords of a CAMAC field passed 6 to 9.
-use Prim.Native.Nat.{ℕ, zero, suc, _+_, _≤_}
-use mathlib.Core.Path.{_≡_, refl, sym, _∙_}
-use mathlib.Core.Bool.{_||_, false}
+use Prim.Native.Nat.{ℕ, zero, suc, _+_, _≤_, _<_}
+use mathlib.Core.Path.{_≡_, refl}
+use mathlib.Core.Bool.{false}
 use mathlib.Core.List.{List}
 use native.Mathlib.Omega.{arith}
 use borrow.Author.Tests.{eq-eqb, eqb-true, not-false}
-use lib.Dec.{eqb}
 use lib.ListN.{length}
 use Rattle.base.specs.Bytes.{longAt}
 use Rattle.camac.specs.Words.{modeIn, commandIn, camacFault, decodedBy, decodeOf}
@@ -14,7 +13,6 @@ use Rattle.camac.specs.declared.words.Command.{Command}
 use Rattle.camac.proofs.BitLaws.{passes-block}
 use Rattle.listfile.specs.Fields.{bodyLength, tagAt, firstAt, secondAt, wrongLength, headFault, carriedBy, bodyOf, afterHead, fieldOf}
 use Rattle.listfile.specs.model.Table.{instructionAt, FieldPassed}
-use Rattle.listfile.specs.declared.field.Instruction.{Instruction}
 use Rattle.listfile.specs.declared.field.FieldRead.the-variants.{Read}
 use Rattle.listfile.specs.declared.field.Tag.the-variants.{CamacTag, JumpTag}
 use Rattle.listfile.proofs.FieldLaws.{read-head, Lies, field-lies, longwords-least}
@@ -22,6 +20,9 @@ use Rattle.listfile.proofs.FieldLaws.{read-head, Lies, field-lies, long
 module _ (list : List ℕ) (at : ℕ) (p : FieldPassed list at) where
   lies : Lies list at (p .count)
   lies = field-lies list at (p .count) (instructionAt list at) (p .read)
+
+  pub tag-inside : at < length list
+  tag-inside = omega (arith, lies .inside)
 
   pub jump-inside : tagAt list at ≡ JumpTag → at + 5 ≤ length list
   jump-inside t =

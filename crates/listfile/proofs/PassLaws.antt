@@ -9,7 +9,7 @@ use mathlib.Core.Option.{none, some}
 use native.Mathlib.Omega.{arith}
 use native.Mathlib.Numerals.{add-one}
 use native.Mathlib.Nat.{le-of-suc-le-suc, eq-or-lt-of-le}
-use borrow.Author.Tests.{le-leb, lt-leb}
+use borrow.Author.Tests.{lt-leb}
 use lib.ListN.{length, getD, set, drop, length-append, List·getD-append}
 use lib.Seq.{getD-set-same, getD-set-other, drop-cons, drop-nil, getD-append-seam}
 use Rattle.base.specs.Checks.{if_then_else_}
@@ -20,6 +20,7 @@ use Rattle.listfile.specs.declared.field.Instruction.the-variants.{Camac
 use Rattle.listfile.specs.declared.field.FieldRead.{FieldRead}
 use Rattle.listfile.specs.declared.field.FieldRead.the-variants.{Read, Refused}
 use Rattle.listfile.proofs.FieldLaws.{read-again}
+use Rattle.listfile.proofs.Unrolled.{fields-end, fields-on}
 
 one-less : (k : ℕ) → k ≡ suc k - 1
 one-less k = omega arith
@@ -51,14 +52,12 @@ pass-start list =
 pub pass-refused : (list : List ℕ) (at n fuel : ℕ) (fs : List Field) (x : FieldRead) (m number : ℕ) → 0 < fuel
     → at < length list → x ≡ fieldOf list at n → x ≡ Refused m → number ≡ numberOf x
     → prefixed fs (fieldsFrom fuel list at n) ≡ faulty (record { number = number; place = at })
-unfolding fieldsFrom
 pass-refused list at n zero fs x m number u h e r en = absurd (omega arith)
-pass-refused list at n (suc fuel) fs x m number u h e r en = rw (lt-leb (length list) at h, ← e, en, r)
+pass-refused list at n (suc fuel) fs x m number u h e r en = rw (fields-on fuel list at n h, ← e, en, r)
 
 fields-step : (list : List ℕ) (at n fuel : ℕ) (i : Instruction) → at < length list → fieldOf list at n ≡ Read i
     → fieldsFrom (suc fuel) list at n ≡ ahead (here list at) (fieldsFrom fuel list (nextField list at) (n + 1))
-unfolding fieldsFrom
-fields-step list at n fuel i h e = rw (lt-leb (length list) at h, e, read-again list at n i e)
+fields-step list at n fuel i h e = rw (fields-on fuel list at n h, e, read-again list at n i e)
 
 fields-more : (list : List ℕ) (at n : ℕ) → at ≡ placeOf list n
     → firstFields list n ++ here list at ∷ [] ≡ firstFields list (n + 1)
@@ -84,9 +83,8 @@ pass-turn list at n next i u h e a l =
 
 pub pass-end : (list : List ℕ) (at n fuel : ℕ) → 0 < fuel → length list ≤ at
     → prefixed (firstFields list n) (fieldsFrom fuel list at n) ≡ fields (firstFields list n)
-unfolding fieldsFrom
 pass-end list at n zero u h = absurd (omega arith)
-pass-end list at n (suc fuel) u h = rw (le-leb (length list) at h) (ap fields (append-none (firstFields list n)))
+pass-end list at n (suc fuel) u h = rw (fields-end fuel list at n h) (ap fields (append-none (firstFields list n)))
   where
     append-none : (fs : List Field) → fs ++ [] ≡ fs
     append-none [] = refl

@@ -33,7 +33,7 @@ pub enum FieldRead {
     Refused(u8),
 }
 
-fn tag_of(byte: u8) -> Tag
+pub(crate) fn tag_of(byte: u8) -> Tag
     ensures { λ r. ⌜ r ≡ tagOf byte ⌝ }
 {
     match byte {
@@ -45,7 +45,7 @@ fn tag_of(byte: u8) -> Tag
     }
 }
 
-pub fn tag_at(list: &[u8], at: usize) -> Tag
+fn tag_at(list: &[u8], at: usize) -> Tag
     ensures { λ r. ⌜ r ≡ tagAt (now (list .entry)) at ⌝ }
 {
     tag_of(base::byte_at(list, at))

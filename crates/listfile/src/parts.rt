@@ -1,4 +1,6 @@
 // Parts of a field that has passed its checks, read in place: what a walk or a run asks of it without decoding it whole.
+use crate::field::Tag;
+use crate::field::tag_of;
 ghost use mathlib.Core.Path.{_≡_};
 ghost use Prim.Native.Nat.{_+_};
 ghost use Rattle.base.specs.Bytes.{shortAt};
@@ -7,6 +9,13 @@ ghost use Rattle.camac.specs.model.Bits.{Passes};
 ghost use Rattle.listfile.specs.Fields.{tagAt, firstAt, secondAt};
 ghost use Rattle.listfile.specs.model.Table.{FieldPassed};
 ghost use Rattle.listfile.specs.declared.field.Tag.the-variants.{CamacTag, JumpTag};
+
+pub fn tag_in(list: &[u8], at: usize) -> Tag
+    requires { ⌜ FieldPassed (now list) at ⌝ }
+    ensures { λ r. ⌜ r ≡ tagAt (now (list .entry)) at ⌝ }
+{
+    tag_of(list[at])
+}
 
 // The first longword of a CAMAC field.
 pub fn first_at(list: &[u8], at: usize) -> u32

@@ -12,7 +12,8 @@ use Rattle.walk.specs.Walk.{firstSpot, Visit, visit, fieldAt, nextOf, be
 use Rattle.walk.specs.Eleven.{Leads, here, onward, PassesLastField, Repeats, RefusalEleven}
 use Rattle.walk.specs.declared.visits.Spot.{Spot}
 use Rattle.base.proofs.Pigeonhole.{Free, Apart, Below, apart-most, Among, first, later, among-or-free}
-use Rattle.walk.proofs.Halting.{walk-ends, walk-goes, Walk, ends, goes, none-some, same-some, same-next, walked, same-length}
+use Rattle.walk.proofs.Unrolled.{walk-ends, walk-goes}
+use Rattle.walk.proofs.Halting.{Walk, ends, goes, none-some, same-some, same-next, walked, same-length}
 
 -- A walk to a halt -------------------------------------------------------------------------------------------------------
 

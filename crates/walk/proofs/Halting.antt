@@ -15,23 +15,8 @@ use Rattle.listfile.specs.declared.field.Instruction.the-variants.{Camac, Jump,
 use Rattle.listfile.proofs.Sound.{SoundInstruction, SoundFields}
 use Rattle.walk.specs.Walk.{firstSpot, spotAfter, jumpTo, sameSpot, Visit, visit, fieldAt, nextOf, before, walkFrom, upTo, onFrom}
 use Rattle.walk.specs.declared.visits.Spot.{Spot}
+use Rattle.walk.proofs.Unrolled.{walk-none, walk-past, walk-ends, walk-goes}
 use Rattle.walk.proofs.Spots.{spot-same, spot-other, same-spot}
-
--- The walk, unrolled -----------------------------------------------------------------------------------------------------
-
-pub walk-past : (most : ℕ) (fs : List Field) (k : Spot) → fieldAt fs (k .instruction) ≡ none → walkFrom (suc most) fs k ≡ none
-unfolding walkFrom
-walk-past most fs k p = rw (p, walkFrom)
-
-pub walk-ends : (most : ℕ) (fs : List Field) (k : Spot) {f : Field} → fieldAt fs (k .instruction) ≡ some f → nextOf (f .instruction) k ≡ none
-    → walkFrom (suc most) fs k ≡ some (visit k f ∷ [])
-unfolding walkFrom
-walk-ends most fs k p q = rw (p, walkFrom, q)
-
-pub walk-goes : (most : ℕ) (fs : List Field) (k : Spot) {j : Spot} {f : Field} → fieldAt fs (k .instruction) ≡ some f → nextOf (f .instruction) k ≡ some j
-    → walkFrom (suc most) fs k ≡ before (visit k f) (walkFrom most fs j)
-unfolding walkFrom
-walk-goes most fs k p q = rw (p, walkFrom, q)
 
 -- The walk as a derivation -----------------------------------------------------------------------------------------------
 
@@ -57,8 +42,7 @@ before-some v none {vs} e = none-some vs e
 before-some v (some us) e = (us, refl, cc)
 
 pub walked : (most : ℕ) (fs : List Field) (k : Spot) {vs : List Visit} → walkFrom most fs k ≡ some vs → Walk fs k vs
-unfolding walkFrom
-walked zero fs k {vs} e = none-some vs e
+walked zero fs k {vs} e = none-some vs (sym (walk-none fs k) ∙ e)
 walked (suc most) fs k {vs} e = at (fieldAt fs (k .instruction)) refl (λ j us. walked most fs j {vs = us})
   where
     at : (x : Option Field) → fieldAt fs (k .instruction) ≡ x → ((j : Spot) (us : List Visit) → walkFrom most fs j ≡ some us → Walk fs j us) → Walk fs k vs

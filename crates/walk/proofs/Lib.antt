@@ -1,4 +1,5 @@
 pub mod Spots
+pub mod Unrolled
 pub mod SumLaws
 pub mod TableFields
 pub mod WalkLaws

@@ -1,5 +1,5 @@
 -- Refusals 1 to 21 in their order, by what the checks of the list, the walk and the two lengths answer; and admission from them.
-use Prim.Native.Nat.{ℕ, _≤_, _<_}
+use Prim.Native.Nat.{ℕ, _≤_, _<_, _^_}
 use mathlib.Core.Path.{_≡_, subst}
 use mathlib.Core.List.{List}
 use borrow.Author.Tests.{lt-ltb, le-ltb}
@@ -40,7 +40,7 @@ module _ (list : List ℕ) (c : Checked) (ec : programOf list ≡ listedBy list 
         rw (ec, es, count-fields list (s .count), halted .0)
 
 module _ (list table : List ℕ) (c : Checked) (s : Sizes) (es : c ≡ checked.Passed s) (t : TableChecked list table c) where
-  pub table-passed : (s .count ≤ 4096) × ((s .limit < 65536) × TableRight list table (s .count))
+  pub table-passed : (s .count ≤ 4096) × ((s .limit < 2 ^ 16) × TableRight list table (s .count))
   table-passed = subst (λ (x : Checked). TableChecked list table x) es t
 
   pub planned : (w : Walked) → WalkBy list s w → (counts : Counts) → w ≡ Halted counts → PlannedRight list table s counts

@@ -13,7 +13,8 @@ use Rattle.listfile.specs.Fields.{Field}
 use Rattle.listfile.specs.model.Table.{firstFields}
 use Rattle.walk.specs.Walk.{firstSpot, sameSpot, Visit, visit, fieldAt, nextOf, before, walkFrom, onFrom}
 use Rattle.walk.specs.model.Sums.{visitsIn, restFrom}
-use Rattle.walk.proofs.Halting.{Walk, ends, goes, walked, walk-ends, walk-goes, walk-from, none-some, same-some, same-next}
+use Rattle.walk.proofs.Unrolled.{walk-none, walk-ends, walk-goes}
+use Rattle.walk.proofs.Halting.{Walk, ends, goes, walked, walk-from, none-some, same-some, same-next}
 use Rattle.walk.specs.declared.visits.Spot.{Spot}
 
 -- a count as large as the walk finds it
@@ -25,8 +26,7 @@ walk-enough {fs} {k} (goes {f = f} p q w) (suc n) h = walk-goes n fs k p q ∙ a
 
 -- and what is found is no longer than the count
 walk-most : (n : ℕ) (fs : List Field) (k : Spot) {vs : List Visit} → Walk fs k vs → walkFrom n fs k ≡ some vs → length vs ≤ n
-unfolding walkFrom
-walk-most zero fs k {vs} w e = none-some vs e
+walk-most zero fs k {vs} w e = none-some vs (sym (walk-none fs k) ∙ e)
 walk-most (suc n) fs k (ends p q) e = omega arith
 walk-most (suc n) fs k (goes {f = f} {vs = us} p q w) e =
     let b : before (visit k f) (walkFrom n fs _) ≡ some (visit k f ∷ us) = sym (walk-goes n fs k p q) ∙ e in

@@ -1,6 +1,6 @@
 -- The sums of one visit: they are the worst count and the marks of its instruction, because marks go on word by word in both; and they grow
--- by so little that 4,096 visits stay below 2^60.
-use Prim.Native.Nat.{ℕ, zero, suc, _+_, _*_, _%_, _≤_, _<_}
+-- by at most 2^48, so that 4,096 visits stay below 2^60.
+use Prim.Native.Nat.{ℕ, zero, suc, _+_, _*_, _%_, _^_, _≤_, _<_}
 use mathlib.Core.Path.{_≡_, refl, sym, ap, _∙_, subst}
 use mathlib.Core.Bool.{Bool, true, false}
 use mathlib.Core.List.{List}
@@ -28,7 +28,7 @@ use Rattle.camac.specs.Modes.{worstWords}
 use Rattle.camac.proofs.BitLaws.{command-qmode, command-wide, command-few}
 use Rattle.camac.proofs.Most.{worst-small}
 use Rattle.walk.specs.Worst.{worstOf}
-use Rattle.walk.specs.model.Sums.{FewWords, addedBy, afterCommand, turnOf}
+use Rattle.walk.specs.model.Sums.{FewWords, Below, addedBy, afterCommand, turnOf}
 use Rattle.walk.specs.declared.worst.Counts.{Counts}
 use Rattle.walk.specs.declared.visits.Turn.the-variants.{To, Stopped}
 use Rattle.walk.specs.declared.visits.Spot.{Spot}
@@ -136,55 +136,56 @@ pad-small true m = go (eqb (m % 4) 2)
     go true = omega arith
     go false = omega arith
 
-mark-small : (wide : Bool) (n m : ℕ) → n ≤ 4294967296 → markAfterWords wide n m ≤ m + 34359738368
+mark-small : (wide : Bool) (n m : ℕ) → n ≤ 2 ^ 32 → markAfterWords wide n m ≤ m + 2 ^ 48
 unfolding markAfterWords widthOf
 mark-small wide zero m h = omega arith
 mark-small wide (suc n) m h = rw (words-closed wide n m) (go wide (pad-small wide m))
   where
-    go : (wide : Bool) → padAt wide m ≤ 2 → m + padAt wide m + suc n * widthOf wide ≤ m + 34359738368
+    go : (wide : Bool) → padAt wide m ≤ 2 → m + padAt wide m + suc n * widthOf wide ≤ m + 2 ^ 48
     go true p = omega arith
     go false p = omega arith
 
-pub record Grown (s s′ : Counts) : Type 0 where
-  pub worst : s′ .worst ≤ s .worst + 281474976710656
-  pub incoming : s′ .incoming ≤ s .incoming + 34359738368
-  pub outgoing : s′ .outgoing ≤ s .outgoing + 34359738368
+pub below-more : {a b : ℕ} {s : Counts} → a ≤ b → Below a s → Below b s
+below-more h x = record { worst = omega (arith, x .worst); incoming = omega (arith, x .incoming); outgoing = omega (arith, x .outgoing) }
 
-command-grows : (limit : ℕ) (c : Command) (s : Counts) → limit < 65536 → wordsOf (c .transfer) ≤ 4294967296
-    → Grown s (afterCommand limit c s)
+command-below : (limit b : ℕ) (c : Command) (s : Counts) → limit < 2 ^ 16 → wordsOf (c .transfer) ≤ 2 ^ 32 → Below b s
+    → Below (b + 2 ^ 48) (afterCommand limit c s)
 unfolding afterCommand
-command-grows limit c s hl h = by (directionOf (c .transfer))
+command-below limit b c s hl h x = by (directionOf (c .transfer))
   where
     w : ℕ
     w = worstWords limit (qmodeOf (c .transfer)) (positionOf (c .transfer)) (wordsOf (c .transfer))
 
-    small : w ≤ 281474976710656
-    small = worst-small limit (qmodeOf (c .transfer)) (positionOf (c .transfer)) (wordsOf (c .transfer)) hl h
+    worst : s .worst + w ≤ b + 2 ^ 48
+    worst =
+        omega (arith, x .worst, worst-small limit (qmodeOf (c .transfer)) (positionOf (c .transfer)) (wordsOf (c .transfer)) hl h)
 
-    by : (d : Direction) → Grown s (addedBy d (c .wide) (wordsOf (c .transfer)) (s .worst + w) s)
-    by Incoming =
-        record
-        { worst = omega (arith, small); incoming = mark-small (c .wide) (wordsOf (c .transfer)) (s .incoming) h; outgoing = omega arith }
-    by Outgoing =
-        record
-        { worst = omega (arith, small); incoming = omega arith; outgoing = mark-small (c .wide) (wordsOf (c .transfer)) (s .outgoing) h }
-    by Neither = record { worst = omega (arith, small); incoming = omega arith; outgoing = omega arith }
+    mark : (m : ℕ) → m ≤ b → markAfterWords (c .wide) (wordsOf (c .transfer)) m ≤ b + 2 ^ 48
+    mark m l = omega (arith, mark-small (c .wide) (wordsOf (c .transfer)) m h)
 
-pub turn-grows : (limit : ℕ) (i : Instruction) (k : Spot) (s : Counts) (j : Spot) (s′ : Counts) → limit < 65536 → FewWords i
-    → turnOf limit i k s ≡ To j s′ → Grown s s′
+    by : (d : Direction) → Below (b + 2 ^ 48) (addedBy d (c .wide) (wordsOf (c .transfer)) (s .worst + w) s)
+    by Incoming = record { worst = worst; incoming = mark (s .incoming) (x .incoming); outgoing = omega (arith, x .outgoing) }
+    by Outgoing = record { worst = worst; incoming = omega (arith, x .incoming); outgoing = mark (s .outgoing) (x .outgoing) }
+    by Neither = record { worst = worst; incoming = omega (arith, x .incoming); outgoing = omega (arith, x .outgoing) }
+
+pub turn-below : (limit b : ℕ) (i : Instruction) (k : Spot) (s : Counts) (j : Spot) (s′ : Counts) → limit < 2 ^ 16 → FewWords i → Below b s
+    → turnOf limit i k s ≡ To j s′ → Below (b + 2 ^ 48) s′
 unfolding turnOf
-turn-grows limit i k s j s′ hl h e = go i h e
+turn-below limit b i k s j s′ hl h x e = go i h e
   where
-    to : (x : Counts) → x ≡ s′ → Grown s x → Grown s s′
-    to x q g = subst (λ (y : Counts). Grown s y) q g
+    to : (y : Counts) → y ≡ s′ → Below (b + 2 ^ 48) y → Below (b + 2 ^ 48) s′
+    to y q g = subst (Below (b + 2 ^ 48)) q g
 
-    go : (i : Instruction) → FewWords i → turnOf limit i k s ≡ To j s′ → Grown s s′
-    go (Camac c) h e = to (afterCommand limit c s) (cc) (command-grows limit c s hl h)
-    go (Jump target) h e = to s (cc) (record { worst = omega arith; incoming = omega arith; outgoing = omega arith })
+    go : (i : Instruction) → FewWords i → turnOf limit i k s ≡ To j s′ → Below (b + 2 ^ 48) s′
+    go (Camac c) h e = to (afterCommand limit c s) (cc) (command-below limit b c s hl h x)
+    go (Jump target) h e = to s (cc) (below-more (omega arith) x)
     go (Literal v) h e =
         to (afterLiteral s) (cc)
-        (record
-        { worst = omega arith; incoming = mark-small true 1 (s .incoming) (omega arith); outgoing = omega arith })
+        (record {
+          worst = omega (arith, x .worst);
+          incoming = omega (arith, x .incoming, mark-small true 1 (s .incoming) (omega arith));
+          outgoing = omega (arith, x .outgoing);
+        })
     go Halt h e = let z : _≡_ {A = ℕ} 0 1 = cc in absurd (omega arith)
 
 -- Words of an instruction as it lies in the list ---------------------------------------------------------------------------------

@@ -1,6 +1,6 @@
 -- The walk from its start is the walk from here with the sums so far: one turn of the loop moves one visit into the sums. From the answers
 -- of the loop follow the walk and its counts.
-use Prim.Native.Nat.{ℕ, zero, suc, _+_, _-_, _<_}
+use Prim.Native.Nat.{ℕ, zero, suc, _+_, _-_, _^_, _<_}
 use mathlib.Core.Path.{_≡_, refl, ap, _∙_}
 use mathlib.Core.List.{List}
 use mathlib.Core.Option.{Option, none, some}
@@ -19,7 +19,7 @@ use Rattle.walk.specs.declared.visits.Turn.the-variants.{To, Stopped}
 use Rattle.walk.specs.declared.visits.Walked.{Walked}
 use Rattle.walk.specs.declared.visits.Walked.the-variants.{Lost, Halted}
 use Rattle.walk.proofs.SumLaws.{marksIn, countsBy, turn-went, turn-halts}
-use Rattle.walk.proofs.Halting.{walk-past, walk-ends, walk-goes}
+use Rattle.walk.proofs.Unrolled.{walk-none, walk-past, walk-ends, walk-goes}
 use Rattle.walk.specs.declared.visits.Spot.{Spot}
 
 abbrev pub noCounts : Counts
@@ -35,9 +35,7 @@ module _ (limit : ℕ) (fs : List Field) where
   ahead-start n = let z : n - 0 ≡ n = omega arith in rw z refl
 
   pub ahead-none : (most : ℕ) (k : Spot) (s : Counts) → most ≡ 0 → ahead limit (walkFrom most fs k) s ≡ Lost
-  unfolding walkFrom
-  ahead-none zero k s h = refl
-  ahead-none (suc most) k s h = absurd (omega arith)
+  ahead-none most k s h = rw (h, walk-none fs k)
 
   pub ahead-past : (most : ℕ) (k : Spot) (s : Counts) → 0 < most → fieldAt fs (k .instruction) ≡ none
       → ahead limit (walkFrom most fs k) s ≡ Lost
@@ -86,7 +84,7 @@ walk-lost list s e = go (walkFrom (s .count) (firstFields list (s .count)) first
 
 pub walk-halted : (list : List ℕ) (s : Sizes) (sums : Counts)
     → ahead (s .limit) (walkFrom (s .count) (firstFields list (s .count)) firstSpot) noCounts ≡ Halted sums
-    → Below 1152921504606846976 sums → WalkBy list s (Halted sums)
+    → Below (2 ^ 60) sums → WalkBy list s (Halted sums)
 unfolding restFrom countsOf
 walk-halted list s sums e b = go (walkFrom (s .count) (firstFields list (s .count)) firstSpot) refl e
   where

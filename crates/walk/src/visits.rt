@@ -6,7 +6,7 @@ use listfile::Instruction;
 use listfile::Sizes;
 use listfile::Tag;
 ghost use mathlib.Core.Path.{_≡_};
-ghost use Prim.Native.Nat.{_<_, _≤_};
+ghost use Prim.Native.Nat.{_^_, _<_, _≤_};
 ghost use lib.ListN.{length};
 ghost use Rattle.listfile.specs.model.Table.{instructionAt, FieldPassed, TableRight};
 ghost use Rattle.walk.specs.Walk.{firstSpot, spotAfter, jumpTo, sameSpot};
@@ -37,7 +37,7 @@ pub fn first_spot() -> Spot
 
 // The next instruction of the list, which has at most 4,096.
 pub fn spot_after(s: Spot) -> Spot
-    requires { ⌜ s .instruction < 65536 ⌝ }
+    requires { ⌜ s .instruction < 2 ^ 16 ⌝ }
     ensures { λ r. ⌜ r ≡ spotAfter s ⌝ }
 {
     Spot {
@@ -61,7 +61,7 @@ pub fn is_same_spot(s: Spot, t: Spot) -> bool
 
 // One visit; the search for an instruction of the walk makes it too.
 pub fn turn_of(i: Instruction, at: Spot, limit: u64, s: Counts) -> Turn
-    requires { ⌜ (limit < 65536) × (FewWords i × ((at .instruction < 65536) × Below 4611686018427387904 s)) ⌝ }
+    requires { ⌜ (limit < 2 ^ 16) × (FewWords i × ((at .instruction < 2 ^ 16) × Below (2 ^ 62) s)) ⌝ }
     ensures { λ r. ⌜ r ≡ turnOf limit i at s ⌝ }
 {
     match i {
@@ -81,11 +81,11 @@ pub fn turn_of(i: Instruction, at: Spot, limit: u64, s: Counts) -> Turn
 
 // The same at an admitted field, of which it reads what it needs.
 pub fn turn_at(list: &[u8], place: u16, here: Spot, limit: u64, s: Counts) -> Turn
-    requires { ⌜ (limit < 65536) × (FieldPassed (now list) place × ((here .instruction < 65536) × Below 4611686018427387904 s)) ⌝ }
+    requires { ⌜ (limit < 2 ^ 16) × (FieldPassed (now list) place × ((here .instruction < 2 ^ 16) × Below (2 ^ 62) s)) ⌝ }
     ensures { λ r. ⌜ r ≡ turnOf limit (instructionAt (now (list .entry)) place) here s ⌝ }
 {
     let at = place as usize;
-    let tag = listfile::tag_at(list, at);
+    let tag = listfile::tag_in(list, at);
     match tag {
         Tag::CamacTag => Turn::To(spot_after(here), after_field(limit, list, at, s)),
         Tag::JumpTag => Turn::To(jump_to(listfile::target_at(list, at), here), s),
@@ -104,7 +104,7 @@ pub fn turn_at(list: &[u8], place: u16, here: Spot, limit: u64, s: Counts) -> Tu
 
 // The walk over a list that passed 1 to 10, with its sums.
 pub(crate) fn walk(list: &[u8], table: &[u16], sizes: Sizes) -> Walked
-    requires { ⌜ (sizes .count ≤ length (now table)) × ((sizes .count ≤ 4096) × ((sizes .limit < 65536) × TableRight (now list) (now table) (sizes .count))) ⌝ }
+    requires { ⌜ (sizes .count ≤ length (now table)) × ((sizes .count ≤ 4096) × ((sizes .limit < 2 ^ 16) × TableRight (now list) (now table) (sizes .count))) ⌝ }
     ensures { λ r. ⌜ WalkBy (now (list .entry)) sizes r ⌝ }
 {
     let count = sizes.count;

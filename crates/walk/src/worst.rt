@@ -2,7 +2,7 @@
 use camac::Command;
 use camac::Direction;
 ghost use mathlib.Core.Path.{_≡_};
-ghost use Prim.Native.Nat.{_<_, _≤_};
+ghost use Prim.Native.Nat.{_^_, _<_, _≤_};
 ghost use Rattle.camac.specs.Words.{commandIn, wordsOf};
 ghost use Rattle.listfile.specs.Fields.{tagAt, firstAt, secondAt};
 ghost use Rattle.listfile.specs.model.Table.{FieldPassed};
@@ -18,7 +18,7 @@ pub struct Counts {
 
 // The sums after a CAMAC instruction with all its words.
 pub(crate) fn after_command(limit: u64, c: Command, s: Counts) -> Counts
-    requires { ⌜ (limit < 65536) × ((wordsOf (c .transfer) ≤ 4294967296) × Below 4611686018427387904 s) ⌝ }
+    requires { ⌜ (limit < 2 ^ 16) × ((wordsOf (c .transfer) ≤ 2 ^ 32) × Below (2 ^ 62) s) ⌝ }
     ensures { λ r. ⌜ r ≡ afterCommand limit c s ⌝ }
 {
     let t = c.transfer;
@@ -48,7 +48,7 @@ pub(crate) fn after_command(limit: u64, c: Command, s: Counts) -> Counts
 
 // The same for the CAMAC field at a place, by the bits of its longwords.
 pub(crate) fn after_field(limit: u64, list: &[u8], at: usize, s: Counts) -> Counts
-    requires { ⌜ (limit < 65536) × (FieldPassed (now list) at × ((tagAt (now list) at ≡ CamacTag) × Below 4611686018427387904 s)) ⌝ }
+    requires { ⌜ (limit < 2 ^ 16) × (FieldPassed (now list) at × ((tagAt (now list) at ≡ CamacTag) × Below (2 ^ 62) s)) ⌝ }
     ensures { λ r. ⌜ r ≡ afterCommand limit (commandIn (firstAt (now (list .entry)) at) (secondAt (now (list .entry)) at)) s ⌝ }
 {
     let first = listfile::first_at(list, at);

@@ -1,5 +1,5 @@
 -- The walk as code makes it, over the table of places with the sums so far. Nothing here is a rule of document 01.
-use Prim.Native.Nat.{ℕ, _+_, _≤_, _<_}
+use Prim.Native.Nat.{ℕ, _+_, _^_, _≤_, _<_}
 use mathlib.Core.Path.{_≡_}
 use mathlib.Core.Bool.{Bool, true}
 use mathlib.Core.List.{List, []}
@@ -28,7 +28,7 @@ use Rattle.walk.specs.declared.Preparation.the-variants as preparation
 
 -- the words of an instruction are few enough for sums of 64 bits
 abbrev pub FewWords : Instruction → Type 0
-FewWords (Camac c) = wordsOf (c .transfer) ≤ 4294967296
+FewWords (Camac c) = wordsOf (c .transfer) ≤ 2 ^ 32
 FewWords (Jump target) = Unit {0}
 FewWords (Literal v) = Unit {0}
 FewWords Halt = Unit {0}
@@ -74,7 +74,7 @@ abbrev pub WalkBy : List ℕ → Sizes → Walked → Type 0
 WalkBy list s Lost = walkFrom (s .count) (firstFields list (s .count)) firstSpot ≡ none
 WalkBy list s (Halted sums) =
     (walkFrom (s .count) (firstFields list (s .count)) firstSpot ≡ some (restFrom list (s .count) firstSpot))
-    × ((sums ≡ countsOf (planBy list s)) × Below 1152921504606846976 sums)
+    × ((sums ≡ countsOf (planBy list s)) × Below (2 ^ 60) sums)
 
 -- what an answer of the preparation says: the plan, its counts and the table
 abbrev pub preparedBy : List ℕ → Preparation → Prepared
@@ -83,11 +83,11 @@ preparedBy list (preparation.Ready p) = ready (planBy list (p .sizes))
 
 pub record PlannedRight (list table : List ℕ) (s : Sizes) (counts : Counts) : Type 0 where
   pub few : s .count ≤ 4096
-  pub small : s .limit < 65536
+  pub small : s .limit < 2 ^ 16
   pub right : TableRight list table (s .count)
   pub walk : walkFrom (s .count) (firstFields list (s .count)) firstSpot ≡ some (restFrom list (s .count) firstSpot)
   pub sums : counts ≡ countsOf (planBy list s)
-  pub below : Below 1152921504606846976 counts
+  pub below : Below (2 ^ 60) counts
 
 abbrev pub PlannedBy : List ℕ → List ℕ → Preparation → Type 0
 PlannedBy list table (preparation.Refused r) = Unit {0}

@@ -1,5 +1,4 @@
 -- `has_ad` is `adIn`: for bit 0 a quotient by 1 is the number itself.
-use borrow.Author.Needs.{needs}
 use native.Mathlib.Nat.{div-one}
 use Rattle.camac.proofs.bits.has_ad.Statement.{statement}
 use Rattle.camac.proofs.bits.has_ad.Tie as tie

@@ -1,5 +1,4 @@
 -- `reads` says whether the direction is incoming, by the law of BitLaws.
-use borrow.Author.Needs.{needs}
 use Rattle.camac.proofs.BitLaws.{command-reads}
 use Rattle.camac.proofs.bits.reads.Statement.{statement}
 use Rattle.camac.proofs.bits.reads.Tie as tie

@@ -1,5 +1,4 @@
 -- `first_at` is `firstAt`: the field lies in the list with four bytes of body at least, and its longwords passed 6 to 9.
-use borrow.Author.Needs.{needs}
 use native.Mathlib.Omega.{arith}
 use Rattle.listfile.specs.Fields.{firstAt}
 use Rattle.listfile.proofs.PartLaws.{camac-inside, first-passes}

@@ -6,8 +6,8 @@ use Rattle.walk.specs.model.Sums.{turnOf}
 use Rattle.walk.proofs.visits.turn_at.Statement.{statement}
 use Rattle.walk.proofs.visits.turn_at.Tie as tie
 
-tag-at-requires : tie.Need-tag-at-requires
-tag-at-requires c κs = search needs
+tag-in-requires : tie.Need-tag-in-requires
+tag-in-requires c κs = c .before .pre .1 .0
 
 enum-told : tie.Need-enum-told
 enum-told c = search needs
@@ -18,13 +18,13 @@ spot-after-requires c κs = search needs
 after-field-requires : tie.Need-after-field-requires
 after-field-requires c κs =
     let at-start = c .before .before .before .before .before in
-    (at-start .pre .0, (at-start .pre .1 .0, (sym (c .before .before .before .tag-at .ensures) ∙ c .before .enum-told .given .1, at-start .pre .1 .1 .1)))
+    (at-start .pre .0, (at-start .pre .1 .0, (sym (c .before .before .before .tag-in .ensures) ∙ c .before .enum-told .given .1, at-start .pre .1 .1 .1)))
 
 enum-told-2 : tie.Need-enum-told-2
 enum-told-2 c = search needs
 
 target-at-requires : tie.Need-target-at-requires
-target-at-requires c κs = (c .before .before .before .before .pre .1 .0, sym (c .before .before .tag-at .ensures) ∙ c .enum-told2 .given .1)
+target-at-requires c κs = (c .before .before .before .before .pre .1 .0, sym (c .before .before .tag-in .ensures) ∙ c .enum-told2 .given .1)
 
 jump-to-requires : tie.Need-jump-to-requires
 jump-to-requires c κs = search needs
@@ -46,29 +46,29 @@ enum-told-5 c = search needs
 
 returns : tie.Need-returns
 unfolding turnOf instructionAt instructionBy
-returns c = simp (← c .before .before .before .before .tag-at .ensures, c .before .before .enum-told .given .1, c .before .spot-after .ensures, c .after-field .ensures)
+returns c = simp (← c .before .before .before .before .tag-in .ensures, c .before .before .enum-told .given .1, c .before .spot-after .ensures, c .after-field .ensures)
 
 returns-2 : tie.Need-returns-2
 unfolding turnOf instructionAt instructionBy
-returns-2 c = simp (← c .before .before .before .before .tag-at .ensures, c .before .before .enum-told2 .given .1, c .jump-to .ensures, c .before .target-at .ensures)
+returns-2 c = simp (← c .before .before .before .before .tag-in .ensures, c .before .before .enum-told2 .given .1, c .jump-to .ensures, c .before .target-at .ensures)
 
 returns-3 : tie.Need-returns-3
 unfolding turnOf instructionAt instructionBy
-returns-3 c = simp (← c .before .before .before .before .tag-at .ensures, c .before .before .enum-told3 .given .1, c .before .spot-after2 .ensures, c .mark-after-words .ensures)
+returns-3 c = simp (← c .before .before .before .before .tag-in .ensures, c .before .before .enum-told3 .given .1, c .before .spot-after2 .ensures, c .mark-after-words .ensures)
 
 returns-4 : tie.Need-returns-4
 unfolding turnOf instructionAt instructionBy
-returns-4 c = simp (← c .before .before .tag-at .ensures, c .enum-told4 .given .1)
+returns-4 c = simp (← c .before .before .tag-in .ensures, c .enum-told4 .given .1)
 
 returns-5 : tie.Need-returns-5
 unfolding turnOf instructionAt instructionBy
-returns-5 c = simp (← c .before .before .tag-at .ensures, c .enum-told5 .given .1)
+returns-5 c = simp (← c .before .before .tag-in .ensures, c .enum-told5 .given .1)
 
 pub turn-at-spec : {M : Type 1} → statement M
 turn-at-spec =
     tie.close
     (tie.spec
-    tag-at-requires
+    tag-in-requires
     enum-told
     spot-after-requires
     after-field-requires

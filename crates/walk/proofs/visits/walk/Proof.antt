@@ -1,12 +1,13 @@
 -- The loop's invariant: the walk from its start comes to what the walk from here with the sums so far comes to, and each visit added at most
--- 2^48 to W and 2^35 to a mark. The measure is the visits left.
+-- 2^48 to each sum. The measure is the visits left.
 use borrow.Author.Needs.{needs}
-use Prim.Native.Nat.{_-_, _*_, _≤_}
+use Prim.Native.Nat.{_-_, _*_, _^_, _≤_}
 use mathlib.Core.Path.{_≡_, refl, sym, _∙_, subst}
 use native.Mathlib.Omega.{arith}
 use Rattle.listfile.specs.model.Table.{firstFields, FieldPassed}
 use Rattle.walk.specs.Walk.{firstSpot, walkFrom}
-use Rattle.walk.proofs.SumLaws.{turn-grows, words-few}
+use Rattle.walk.specs.model.Sums.{Below}
+use Rattle.walk.proofs.SumLaws.{below-more, turn-below, words-few}
 use Rattle.walk.proofs.TableFields.{field-past, field-here}
 use Rattle.walk.proofs.WalkLaws.{noCounts, ahead, ahead-start, ahead-none, ahead-past, ahead-halt, ahead-turn, walk-lost, walk-halted}
 use Rattle.walk.proofs.visits.walk.Statement.{statement}
@@ -16,8 +17,7 @@ abbrev Inv-loop : tie.InvT-loop
 Inv-loop list table count limit here₀ visits₀ sums₀ here visits sums =
     (ahead limit (walkFrom count (firstFields list count) firstSpot) noCounts
     ≡ ahead limit (walkFrom (count - visits) (firstFields list count) here) sums)
-    × (visits ≤ count) × (sums .worst ≤ 281474976710656 * visits) × (sums .incoming ≤ 34359738368 * visits)
-    × (sums .outgoing ≤ 34359738368 * visits)
+    × (visits ≤ count) × Below (2 ^ 48 * visits) sums
 
 abbrev μ-loop : tie.MeasureT-loop
 μ-loop list table count limit here₀ visits₀ sums₀ here visits sums = count - visits
@@ -26,7 +26,7 @@ first-spot-requires : tie.Need-first-spot-requires Inv-loop μ-loop
 first-spot-requires c κs = search needs
 
 loop-holds : tie.Need-loop-holds Inv-loop μ-loop
-loop-holds c = (rw (c .first-spot .ensures) (ahead-start _ _ _), omega arith, omega arith, omega arith, omega arith)
+loop-holds c = (rw (c .first-spot .ensures) (ahead-start _ _ _), omega arith, record { worst = omega arith; incoming = omega arith; outgoing = omega arith })
 
 returns : tie.Need-returns Inv-loop μ-loop
 returns c =
@@ -46,7 +46,7 @@ turn-at-requires c κs =
       at-start .pre .1 .1 .0,
       (
         subst (FieldPassed _) (sym (right .entry _ (c .before .if1 .left))) (right .passed _ (c .before .if1 .left)),
-        (omega arith, record { worst = omega arith; incoming = omega arith; outgoing = omega arith }),
+        (omega arith, below-more (omega arith) (c .before .before .before .loop .inv .2)),
       ),
     )
 
@@ -63,7 +63,7 @@ returns-2 c =
     let field = field-here _ _ _ _ _ _ (at-if1 .if1 .left) (at-start .pre .1 .1 .1) refl refl in
     let stopped = sym (c .before .before .turn-at .ensures) ∙ c .enum-told .given .1 in
     walk-halted _ _ _ (at-if1 .before .before .loop .inv .0 ∙ ahead-halt _ _ _ _ _ field _ (omega arith) stopped)
-    (record { worst = omega arith; incoming = omega arith; outgoing = omega arith })
+    (below-more (omega arith) (at-if1 .before .before .loop .inv .2))
 
 add-visits : tie.Need-add-visits Inv-loop μ-loop
 add-visits c = omega arith
@@ -79,12 +79,10 @@ loop-again c =
     let i = at-loop .loop .inv in
     let field = field-here _ _ _ _ _ _ (at-if1 .if1 .left) (at-start .pre .1 .1 .1) refl refl in
     let turn = sym (c .before .before .before .turn-at .ensures) ∙ c .before .turn .given .1 in
-    let grown = turn-grows _ _ _ _ _ _ (at-start .pre .1 .1 .0) (words-few _ _ _ refl) turn in (
+    let below = turn-below _ _ _ _ _ _ _ (at-start .pre .1 .1 .0) (words-few _ _ _ refl) (i .2) turn in (
       i .0 ∙ ahead-turn _ _ _ _ _ field _ _ _ _ (at-if1 .before .loop-test .taken) turn,
       omega arith,
-      omega arith,
-      omega arith,
-      omega arith,
+      below-more (omega arith) below,
     )
 
 returns-3 : tie.Need-returns-3 Inv-loop μ-loop
