@@ -263,11 +263,20 @@ const LAST: usize = 0x17F;
 pub fn word_flags(q: QMode, ad: bool) -> u8
     ensures { λ r. ⌜ r ≡ wordFlags q ad ⌝ }
 {
-    match q {
-        QMode::Stop => if ad { 0x01 } else { 0x33 },
-        QMode::Ignore => if ad { 0x00 } else { 0x32 },
-        QMode::Repeat => if ad { 0x01 } else { 0x33 },
-        QMode::Scan => if ad { 0x03 } else { 0x33 },
+    if ad {
+        match q {
+            QMode::Stop => 0x01,
+            QMode::Ignore => 0x00,
+            QMode::Repeat => 0x01,
+            QMode::Scan => 0x03,
+        }
+    } else {
+        match q {
+            QMode::Stop => 0x33,
+            QMode::Ignore => 0x32,
+            QMode::Repeat => 0x33,
+            QMode::Scan => 0x33,
+        }
     }
 }
 

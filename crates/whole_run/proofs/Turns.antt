@@ -165,15 +165,15 @@ module _ (list table : List ℕ) (s : Sizes) (room : ℕ) (g : Grounds list tabl
 
 module _ (list table : List ℕ) (s : Sizes) (room : ℕ) (g : Grounds list table s room) (r : Record) (st : Stage (planBy list s) r)
     (waits : r .ended ≡ false) where
-  here : (c : Command) × Alive (planBy list s) c r
-  here = stage-alive (planBy list s) (grounds-sound list table s room g) r st waits
+  pub alive-here : (c : Command) × Alive (planBy list s) c r
+  alive-here = stage-alive (planBy list s) (grounds-sound list table s room g) r st waits
 
   -- what the table has is the instruction at which the record waits
   pub decoded : (i : Instruction) → i ≡ instructionAt list (getD table (r .spot .instruction) 0)
       → (c : Command) × ((i ≡ Camac c) × Alive (planBy list s) c r)
   decoded i e = (
-    here .0,
-    (e ∙ command-at list table s (g .counts) room (g .outgoing) (g .prepared) r (here .0) (here .1 .rest) (here .1 .waits), here .1),
+    alive-here .0,
+    (e ∙ command-at list table s (g .counts) room (g .outgoing) (g .prepared) r (alive-here .0) (alive-here .1 .rest) (alive-here .1 .waits), alive-here .1),
   )
 
   pub decoded-as : (i : Instruction) → i ≡ instructionAt list (getD table (r .spot .instruction) 0) → (c : Command) → i ≡ Camac c

@@ -1,33 +1,36 @@
 // On along the walk and over the answers, with no record made before the run stops.
 use crate::visit::Stay;
-use crate::visit::rules_of;
+use crate::visit::rules_in;
 use crate::visit::visit;
-use camac::Command;
 use camac::Direction;
 use camac::ScanPosition;
-use listfile::Instruction;
 use listfile::Sizes;
 use packing::Marks;
 use reply::Record;
 use walk::Spot;
 ghost use mathlib.Core.Path.{_≡_};
-ghost use mathlib.Core.Bool.{true};
-ghost use Prim.Native.Nat.{_*_, _^_, _<_, _≤_};
+ghost use mathlib.Core.Bool.{true, false};
+ghost use Prim.Native.Nat.{ℕ, _*_, _^_, _<_, _≤_};
+ghost use Rattle.camac.specs.Words.{commandIn, wordsOf};
 ghost use Rattle.walk.specs.Walk.{movedBy};
 ghost use lib.ListN.{length};
 ghost use Rattle.walk.specs.model.Sums.{planBy};
-ghost use Rattle.reply.specs.Replies.{repliesIn, allFormed};
-ghost use Rattle.step.specs.model.Place.{Alive};
-ghost use Rattle.whole_run.specs.model.Row.{FormedFrom, Grounds, Moves};
-ghost use Rattle.whole_run.specs.model.Words.{AnswersTo};
+ghost use Rattle.whole_run.specs.model.Row.{FormedFrom, Grounds, Stage, Moves};
+ghost use Rattle.whole_run.specs.model.Words.{Answered};
 ghost use Rattle.whole_run.specs.model.Visit.{placeOf};
 ghost use Rattle.whole_run.specs.model.Along.{Ahead, Tabled, Reaches, arrived, between, stayOf, stopRecord};
 
-// Where a run comes to along the walk: a CAMAC instruction or the halt.
+const JUMP: u8 = 0x20;
+
+const HALT: u8 = 0x2F;
+
+// Where a run comes to along the walk: the halt, or a CAMAC instruction with its first longword and the words it wants.
 pub struct Reached {
     pub spot: Spot,
     pub marks: Marks,
-    pub instruction: Instruction,
+    pub first: u32,
+    pub words: usize,
+    pub halted: bool,
 }
 
 // Where a run stops: at a reply that is neither a word nor a wait, at the end of the answers, or at the halt.
@@ -63,31 +66,34 @@ fn reach(
     let mut marks = first;
     loop {
         let k = at.instruction;
-        let i = listfile::instruction_at(list, table[k]);
-        match i {
-            Instruction::Camac(_) => {
-                return Reached {
-                    spot: at,
-                    marks: marks,
-                    instruction: i,
-                };
-            }
-            Instruction::Jump(target) => {
-                at = walk::jump_to(target, at);
-            }
-            Instruction::Literal(v) => {
-                let mark = marks.incoming;
-                packing::store(incoming, mark, true, v);
-                marks = after_literal(marks);
-                at = walk::spot_after(at);
-            }
-            Instruction::Halt => {
-                return Reached {
-                    spot: at,
-                    marks: marks,
-                    instruction: i,
-                };
-            }
+        let place = base::usize_of_short(table[k]);
+        let byte = list[place];
+        if byte < JUMP {
+            let longword = listfile::first_at(list, place);
+            return Reached {
+                spot: at,
+                marks: marks,
+                first: longword,
+                words: listfile::words_at(list, place, longword) as usize,
+                halted: false,
+            };
+        }
+        if byte == HALT {
+            return Reached {
+                spot: at,
+                marks: marks,
+                first: 0,
+                words: 0,
+                halted: true,
+            };
+        }
+        if byte == JUMP {
+            at = walk::jump_to(listfile::target_at(list, place), at);
+        } else {
+            let mark = marks.incoming;
+            packing::store(incoming, mark, true, base::whole_at(list, place + 3));
+            marks = after_literal(marks);
+            at = walk::spot_after(at);
         }
     }
 }
@@ -99,17 +105,15 @@ fn place_of(p: ScanPosition) -> usize
     base::usize_of(p.station) * 16 + base::usize_of(p.subaddress)
 }
 
-fn arrive(c: Command, marks: Marks, here: Stay) -> Stay
-    ensures { λ s. ⌜ s ≡ arrived c marks here ⌝ }
+fn arrive(first: u32, words: usize, marks: Marks, here: Stay) -> Stay
+    ensures { λ s. ⌜ ((second : ℕ) → words ≡ wordsOf (commandIn first second .transfer) → s ≡ arrived (commandIn first second) marks here) ⌝ }
 {
-    let t = c.transfer;
-    let p = camac::position_of(t);
     let note = here.note;
     Stay {
         taken: here.taken,
-        left: camac::words_of(t) as usize,
+        left: words,
         tries: 0,
-        position: place_of(p),
+        position: camac::place_in(first),
         marks: marks,
         note: note,
     }
@@ -150,22 +154,23 @@ pub(crate) fn run_answers(
     list: &[u8],
     table: &[u16],
     sizes: Sizes,
-    first: Command,
     r: Record,
     from: usize,
     incoming: &mut [u8],
     row: &[u8],
     answers: usize,
 ) -> Stop
-    requires { ⌜ Grounds (now list) (now table) sizes (length (now incoming)) × ((FormedFrom (now row) (from * 8) × Alive (planBy (now list) sizes) first r)
-        × ((allFormed (repliesIn (now row)) ≡ true) × ((answers * 8 ≤ length (now row)) × AnswersTo (now row) answers))) ⌝ }
+    requires { ⌜ Grounds (now list) (now table) sizes (length (now incoming)) × ((FormedFrom (now row) (from * 8) × (Stage (planBy (now list) sizes) r × (r .ended ≡ false)))
+        × Answered (now row) answers) ⌝ }
     ensures { λ x. ⌜ Moves (planBy (now (list .entry)) sizes) (now (row .entry)) r (from * 8) (now (incoming .entry))
         (stopRecord r (now (row .entry)) from x) (x .stay .taken * 8) (now (incoming .exit)) × ((from ≤ x .stay .taken) × (x .stay .position < 4096)) ⌝ }
 {
     let mut spot = r.spot;
-    let mut rules = rules_of(first);
+    let begin = spot.instruction;
+    let mut longword = listfile::first_at(list, base::usize_of_short(table[begin]));
     let mut here = stay_of(r, from);
     loop {
+        let rules = rules_in(longword);
         here = visit(rules, sizes.limit, here, incoming, row, answers);
         if here.left != 0 {
             return Stop {
@@ -183,18 +188,17 @@ pub(crate) fn run_answers(
             marks,
             incoming,
         );
-        let i = next.instruction;
         let reached = next.spot;
         let behind = next.marks;
-        let Instruction::Camac(c) = i else {
+        if next.halted {
             return Stop {
                 spot: reached,
                 stay: leave(behind, here),
                 halted: true,
             };
-        };
+        }
         spot = reached;
-        rules = rules_of(c);
-        here = arrive(c, behind, here);
+        longword = next.first;
+        here = arrive(next.first, next.words, behind, here);
     }
 }

@@ -29,11 +29,9 @@ ghost use Prim.Native.Nat.{ℕ, _+_, _*_, _^_, _<_, _≤_};
 ghost use lib.ListN.{length};
 ghost use Rattle.walk.specs.model.Sums.{planBy};
 ghost use Rattle.reply.specs.Effect.{stateOf};
-ghost use Rattle.reply.specs.Replies.{repliesIn, allFormed};
 ghost use Rattle.calls.specs.Calls.{refusedRecord, runOf, Runs};
-ghost use Rattle.step.specs.model.Place.{Alive};
 ghost use Rattle.whole_run.specs.model.Row.{rowFrom, stoppedAt, FormedFrom, Grounds, Stage, Moves};
-ghost use Rattle.whole_run.specs.model.Words.{AnswersTo};
+ghost use Rattle.whole_run.specs.model.Words.{Answered};
 ghost use Rattle.whole_run.specs.model.Along.{stopRecord};
 
 // A record with the number of replies taken.
@@ -107,8 +105,7 @@ fn run_replies(
     row: &[u8],
     answers: usize,
 ) -> Passage
-    requires { ⌜ Grounds (now list) (now table) sizes (length (now incoming)) × (Stage (planBy (now list) sizes) first
-        × ((allFormed (repliesIn (now row)) ≡ true) × ((answers * 8 ≤ length (now row)) × AnswersTo (now row) answers))) ⌝ }
+    requires { ⌜ Grounds (now list) (now table) sizes (length (now incoming)) × (Stage (planBy (now list) sizes) first × Answered (now row) answers) ⌝ }
     ensures { λ v. ⌜ ((outgoing : List ℕ) → rowFrom (planBy (now (list .entry)) sizes) (now (row .entry)) 0 (stateOf first (now (incoming .entry)) outgoing)
         ≡ stoppedAt (v .taken * 8) (stateOf (v .run) (now (incoming .exit)) outgoing)) ⌝ }
 {
@@ -122,16 +119,7 @@ fn run_replies(
                 taken: k,
             };
         }
-        let spot = here.spot;
-        let number = spot.instruction;
-        let i = listfile::instruction_at(list, table[number]);
-        let Instruction::Camac(c) = i else {
-            return Passage {
-                run: here,
-                taken: k,
-            };
-        };
-        let stop = run_answers(list, table, sizes, c, here, k, incoming, row, answers);
+        let stop = run_answers(list, table, sizes, here, k, incoming, row, answers);
         let stay = stop.stay;
         let r = record_of(here, k, stop, row);
         if r.ended || stay.taken == count {

@@ -4,18 +4,19 @@ use crate::words::is_word_at;
 use crate::words::pass_words;
 use crate::words::read_word;
 use crate::words::read_words;
-use camac::Command;
 use camac::Direction;
 use camac::QMode;
 use packing::Marks;
 use reply::Note;
 ghost use mathlib.Core.Path.{_≡_};
 ghost use mathlib.Core.Bool.{true, false};
-ghost use Prim.Native.Nat.{_+_, _*_, _%_, _^_, _<_, _≤_};
+ghost use Prim.Native.Nat.{ℕ, _+_, _*_, _%_, _^_, _<_, _≤_};
 ghost use lib.Bits.{bitAnd};
 ghost use lib.Dec.{eqb};
 ghost use lib.ListN.{length};
+ghost use Rattle.camac.specs.Words.{commandIn, directionOf};
 ghost use Rattle.camac.specs.model.Answers.{wordsAhead};
+ghost use Rattle.camac.specs.model.Bits.{Passes};
 ghost use Rattle.packing.specs.Packing.{markAfterWords};
 ghost use Rattle.whole_run.specs.model.Words.{flagsAt};
 ghost use Rattle.whole_run.specs.model.Visit.{rulesOf, marksBehind, noteBehind, NoteRoom, afterWords, bytesAfter, afterWait, Words, Waits, Passed, Roomy};
@@ -26,7 +27,7 @@ pub struct Rules {
     pub direction: Direction,
     pub wide: bool,
     pub word: u8,
-    pub wait: u8,
+    pub ad: bool,
 }
 
 // Where a run stands at an instruction: replies taken, words left, tries, position as N * 16 + A, marks and note. No words left: it is
@@ -40,17 +41,32 @@ pub struct Stay {
     pub note: Note,
 }
 
-pub(crate) fn rules_of(c: Command) -> Rules
-    ensures { λ r. ⌜ r ≡ rulesOf c ⌝ }
+// Where the words go or come from, by the first longword.
+fn direction_in(first: u32) -> Direction
+    requires { ⌜ Passes first ⌝ }
+    ensures { λ r. ⌜ ((second : ℕ) → r ≡ directionOf (commandIn first second .transfer)) ⌝ }
 {
-    let t = c.transfer;
-    let q = camac::qmode_of(t);
+    if camac::reads(first) {
+        return Direction::Incoming;
+    }
+    if camac::writes(first) {
+        return Direction::Outgoing;
+    }
+    Direction::Neither
+}
+
+pub(crate) fn rules_in(first: u32) -> Rules
+    requires { ⌜ Passes first ⌝ }
+    ensures { λ r. ⌜ ((second : ℕ) → r ≡ rulesOf (commandIn first second)) ⌝ }
+{
+    let q = camac::qmode_in(first);
+    let ad = camac::has_ad(first);
     Rules {
         q: q,
-        direction: camac::direction_of(t),
-        wide: c.wide,
-        word: camac::word_flags(q, c.ad),
-        wait: camac::wait_flags(q, c.ad),
+        direction: direction_in(first),
+        wide: camac::is_wide(first),
+        word: camac::word_flags(q, ad),
+        ad: ad,
     }
 }
 
@@ -175,10 +191,10 @@ fn is_wait(rules: Rules, limit: usize, here: Stay, row: &[u8], answers: usize) -
         × (eqb (bitAnd (flagsAt (now row) (here .taken)) (rules .word)) (rules .word % 4) ≡ false)))) ⌝ }
     ensures { λ b. ⌜ (b ≡ true → Waits rules limit (now (row .entry)) answers here) ⌝ }
 {
-    if !is_word_at(row, here.taken, rules.wait) {
+    let q = rules.q;
+    if !is_word_at(row, here.taken, camac::wait_flags(q, rules.ad)) {
         return false;
     }
-    let q = rules.q;
     camac::can_wait(q, limit, here.tries, here.position)
 }
 

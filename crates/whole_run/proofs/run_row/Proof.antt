@@ -133,7 +133,7 @@ returns-3 c =
     (λ i. omega (arith, at-shared-slice-known .shared-slice-known .given i)) (at-prepare .prepare .kept .1 .0) in
     whole-run _ _ _ (start .args .row .now) _ _ _ x _ _ _ (at-zero-record .zero-record .ensures)
     (λ out. rw (at-zero-record .before .first-spot .ensures) at (at-run-on .run-on .ensures .0 out))
-    (subst (ReadAs (start .args .row .now)) (at-read .read .given .1) (at-read-row .read-row .ensures) .0) _ _ _ (at-run-replies .run-replies .ensures)
+    (subst (ReadAs (start .args .row .now)) (at-read .read .given .1) (at-read-row .read-row .ensures) .formed) _ _ _ (at-run-replies .run-replies .ensures)
 
 pub run-row-spec : {M : Type 1} → statement M
 run-row-spec =

@@ -2,11 +2,12 @@
 -- document 01.
 use Prim.Native.Nat.{ℕ, _≤_}
 use mathlib.Core.Path.{_≡_}
-use mathlib.Core.Logic.{_⊎_}
+use mathlib.Core.Bool.{true, false}
 use mathlib.Core.List.{List}
 use lib.ListN.{length, getD}
 use Rattle.base.specs.Checks.{if_then_else_}
-use Rattle.camac.specs.Words.{wordsOf, positionOf}
+use Rattle.camac.specs.Words.{commandIn, wordsOf, positionOf}
+use Rattle.camac.specs.model.Bits.{Passes}
 use Rattle.camac.specs.declared.words.Command.{Command}
 use Rattle.packing.specs.declared.Marks.{Marks}
 use Rattle.listfile.specs.model.Table.{instructionAt, TableRight}
@@ -34,11 +35,18 @@ pub record Tabled (list table : List ℕ) (count : ℕ) : Type 0 where
   pub few : count ≤ 4096
   pub right : TableRight list table count
 
+-- a CAMAC instruction, by its first longword and the words it wants
+pub record AtCommand (i : Instruction) (first words : ℕ) : Type 0 where
+  pub second : ℕ
+  pub passes : Passes first
+  pub is : i ≡ Camac (commandIn first second)
+  pub wanted : words ≡ wordsOf (commandIn first second .transfer)
+
 -- from a spot to the next CAMAC instruction or the halt
 pub record Reaches (list table : List ℕ) (count : ℕ) (from : Spot) (m : Marks) (b : List ℕ) (x : Reached) (b′ : List ℕ) : Type 0 where
   pub ahead : Ahead list count (x .spot) (x .marks) b′
-  pub instruction : x .instruction ≡ instructionAt list (getD table (x .spot .instruction) 0)
-  pub stops : ((c : Command) × (x .instruction ≡ Camac c)) ⊎ (x .instruction ≡ Halt)
+  pub halt : x .halted ≡ true → instructionAt list (getD table (x .spot .instruction) 0) ≡ Halt
+  pub command : x .halted ≡ false → AtCommand (instructionAt list (getD table (x .spot .instruction) 0)) (x .first) (x .words)
   pub goes : (r : Record) → r .marks ≡ m → (out : List ℕ)
       → runOn (restFrom list count from) (stateOf r b out)
       ≡ runOn (restFrom list count (x .spot)) (stateOf (withMarks (x .marks) r) b′ out)

@@ -32,7 +32,7 @@ rulesOf c = record {
   direction = directionOf (c .transfer);
   wide = c .wide;
   word = wordFlags (qmodeOf (c .transfer)) (c .ad);
-  wait = waitFlags (qmodeOf (c .transfer)) (c .ad);
+  ad = c .ad;
 }
 
 -- Where a run stands -----------------------------------------------------------------------------------------------------
@@ -121,7 +121,7 @@ pub record Waits (rules : Rules) (limit : ℕ) (row : List ℕ) (answers : ℕ) 
   pub some : 1 ≤ s .left
   pub answered : s .taken + 1 ≤ answers
   pub no-word : eqb (bitAnd (flagsAt row (s .taken)) (rules .word)) (rules .word % 4) ≡ false
-  pub judged : eqb (bitAnd (flagsAt row (s .taken)) (rules .wait)) (rules .wait % 4) ≡ true
+  pub judged : eqb (bitAnd (flagsAt row (s .taken)) (waitFlags (rules .q) (rules .ad))) (waitFlags (rules .q) (rules .ad) % 4) ≡ true
   pub tried : canWait (rules .q) limit (s .tries) (s .position) ≡ true
 
 -- words and waits from one stay and buffer to another

@@ -22,10 +22,16 @@ use Rattle.whole_run.specs.declared.row.RowRead.the-variants.{NotFormed,
 abbrev pub AnswersTo : List ℕ → ℕ → Type 0
 AnswersTo row k = (j : ℕ) → j < k → getD row (j * 8) 0 ≡ 0
 
+-- a row of replies, the first k of them answers
+pub record Answered (row : List ℕ) (k : ℕ) : Type 0 where
+  pub formed : allFormed (repliesIn row) ≡ true
+  pub within : k * 8 ≤ length row
+  pub kinds : AnswersTo row k
+
 -- what reading a row says
 abbrev pub ReadAs : List ℕ → RowRead → Type 0
 ReadAs row NotFormed = allFormed (repliesIn row) ≡ false
-ReadAs row (Answers k) = (allFormed (repliesIn row) ≡ true) × ((k * 8 ≤ length row) × AnswersTo row k)
+ReadAs row (Answers k) = Answered row k
 
 -- of the replies before number `to`, those from `from` on are formed
 abbrev pub FormedOver : List ℕ → ℕ → ℕ → Type 0

@@ -65,10 +65,12 @@ returns-3 : tie.Need-returns-3 Inv-loop μ-loop
 returns-3 c =
     let at-loop = c .before in
     let row = at-loop .before .before .before .args .row .now in
-    let i = at-loop .loop .inv in (
-      all-formed row (length row / 8) (omega arith) (λ j l f. i .2 j (omega arith) f),
-      (omega arith, λ j b. i .3 j (omega arith) (omega arith) b),
-    )
+    let i = at-loop .loop .inv in
+    record {
+      formed = all-formed row (length row / 8) (omega arith) (λ j l f. i .2 j (omega arith) f);
+      within = omega arith;
+      kinds = λ j b. i .3 j (omega arith) (omega arith) b;
+    }
 
 pub read-row-spec : {M : Type 1} → statement M
 read-row-spec =

@@ -80,7 +80,7 @@ wanted-at-requires c κs =
     let start = at-if1 .before .before .before .before .before .before in
     let alive = alive-by (at-fitting .enum-told .given .1) (at-record-fits .record-fits .ensures) in
     last-asked (start .args .list .now) (start .args .incoming .now) (start .args .outgoing .now) (start .args .row .now) (start .args .r) _ _ _ (start .pre) (at-if1 .if1 .left) (alive .fit)
-    (subst (ReadAs (start .args .row .now)) (c .before .before .before .before .before .before .read .given .1) (c .before .before .before .before .before .before .before .before .read-row .ensures) .0) _ _ _ (c .before .before .before .run-replies .ensures)
+    (subst (ReadAs (start .args .row .now)) (c .before .before .before .before .before .before .read .given .1) (c .before .before .before .before .before .before .before .before .read-row .ensures) .formed) _ _ _ (c .before .before .before .run-replies .ensures)
 
 same-length : tie.Need-same-length
 same-length c = search needs
@@ -96,7 +96,7 @@ returns-4 c =
     steps-by _ _ _ _ _ _ _ _
     (ap (λ (w : Operation). record { refusal = notRefused; taken = v .taken; run = v .run; wanted = w }) (c .wanted-at .ensures))
     (steps-taken (start .args .list .now) (start .args .incoming .now) (start .args .outgoing .now) (start .args .row .now) (start .args .r) _ _ _ (start .pre) (at-if1 .if1 .left) (alive .fit)
-    (subst (ReadAs (start .args .row .now)) (c .before .before .before .before .before .before .before .read .given .1) (c .before .before .before .before .before .before .before .before .before .read-row .ensures) .0) _ _ _ (c .before .before .before .before .run-replies .ensures))
+    (subst (ReadAs (start .args .row .now)) (c .before .before .before .before .before .before .before .read .given .1) (c .before .before .before .before .before .before .before .before .before .read-row .ensures) .formed) _ _ _ (c .before .before .before .before .run-replies .ensures))
 
 pub steps-planned-spec : {M : Type 1} → statement M
 steps-planned-spec =
