@@ -1,9 +1,9 @@
 -- One turn of the loop over instructions: from a stay at an instruction over its answers and on along the walk to the next one, or to the halt. A stay
 -- stands for the record that a run has there, whose position is that of a CAMAC word or of a scan and so one number below 512.
-use Prim.Native.Nat.{ℕ, _+_, _-_, _*_, _/_, _%_, _^_, _≤_, _<_}
+use Prim.Native.Nat.{ℕ, _+_, _-_, _*_, _/_, _%_, _≤_, _<_}
 use mathlib.Core.Path.{_≡_, refl, sym, ap, _∙_, subst}
 use mathlib.Core.Logic.{inl, inr}
-use mathlib.Core.Bool.{Bool, true, false}
+use mathlib.Core.Bool.{true, false}
 use mathlib.Core.List.{List, [], _∷_}
 use native.Mathlib.Omega.{arith}
 use lib.Bits.{bitOr, or-zero-r}
@@ -23,10 +23,10 @@ use Rattle.listfile.specs.Fields.{tagAt, firstAt, secondAt}
 use Rattle.listfile.specs.model.Table.{instructionBy, instructionAt, FieldPassed}
 use Rattle.listfile.specs.declared.check.Sizes.{Sizes}
 use Rattle.listfile.specs.declared.field.Instruction.{Instruction}
-use Rattle.listfile.specs.declared.field.Instruction.the-variants.{Camac, Jump, Literal, Halt}
+use Rattle.listfile.specs.declared.field.Instruction.the-variants.{Camac, Halt}
 use Rattle.listfile.specs.declared.field.Tag.{Tag}
 use Rattle.listfile.specs.declared.field.Tag.the-variants.{CamacTag, JumpTag, LiteralTag, HaltTag, UnknownTag}
-use Rattle.walk.specs.Walk.{spotAfter, Visit, movedWords, marksOver}
+use Rattle.walk.specs.Walk.{spotAfter, Visit, movedWords}
 use Rattle.walk.specs.model.Sums.{restFrom, planBy}
 use Rattle.walk.specs.declared.visits.Spot.{Spot}
 use Rattle.walk.proofs.Rest.{OnWalk}

@@ -1,6 +1,6 @@
 -- The room of a stay is kept by words and waits: marks behind j and then k words are those behind j + k, and a scan that can do k words has not
 -- left behind them, unless they were its last.
-use Prim.Native.Nat.{ℕ, zero, suc, _+_, _-_, _*_, _/_, _%_, _^_, _≤_, _<_}
+use Prim.Native.Nat.{ℕ, zero, suc, _+_, _-_, _*_, _%_, _^_, _≤_, _<_}
 use mathlib.Core.Path.{_≡_, refl, sym, ap, _∙_, subst}
 use mathlib.Core.Bool.{Bool, true, false, false≢true}
 use mathlib.Core.List.{List}
@@ -10,7 +10,6 @@ use lib.Bits.{bitAnd}
 use lib.Dec.{eqb, ltb}
 use lib.ListN.{length}
 use Rattle.base.proofs.Tests.{on}
-use Rattle.base.specs.Checks.{if_then_else_}
 use Rattle.camac.specs.Modes.{triesAfter}
 use Rattle.camac.specs.model.Answers.{canWait, wordsAhead, placeAfterWords, placeAfterWait}
 use Rattle.camac.specs.declared.modes.QMode.{QMode}
@@ -21,7 +20,7 @@ use Rattle.packing.specs.Packing.{widthOf, markAfter, markAfterWords, stored}
 use Rattle.packing.specs.declared.Marks.{Marks}
 use Rattle.packing.proofs.MarkFacts.{mark-grows}
 use Rattle.whole_run.specs.model.Words.{longwordIn, flagsAt, WordsAt, wordsStored}
-use Rattle.whole_run.specs.model.Visit.{marksBehind, NoteRoom, afterWords, bytesBy, bytesAfter, afterWait, Words, Waits, Passed, none, words, wait, Roomy}
+use Rattle.whole_run.specs.model.Visit.{marksBehind, NoteRoom, afterWords, bytesBy, bytesAfter, afterWait, Words, Waits, Passed, words, wait, Roomy}
 use Rattle.whole_run.specs.declared.visit.Rules.{Rules}
 use Rattle.whole_run.specs.declared.visit.Stay.{Stay}
 use Rattle.whole_run.proofs.WordLaws.{words-length, words-none, words-more}

@@ -6,15 +6,14 @@ use mathlib.Core.Bool.{Bool, true, false}
 use mathlib.Core.List.{List, [], _∷_}
 use mathlib.Core.Option.{some}
 use native.Mathlib.Omega.{arith}
-use borrow.Author.Tests.{eq-eqb, ltb-true, ltb-false, le-ltb, lt-ltb}
+use borrow.Author.Tests.{eq-eqb, ltb-true, ltb-false}
 use lib.Bits.{bitAnd}
-use lib.Dec.{eqb, ltb}
-use lib.ListN.{length, getD, take, drop}
+use lib.Dec.{ltb}
+use lib.ListN.{length, take, drop}
 use Rattle.base.proofs.Tests.{on}
-use Rattle.base.specs.Checks.{if_then_else_}
 use Rattle.camac.specs.Words.{qmodeOf, directionOf}
 use Rattle.camac.specs.Modes.{done, spent, scanLeaves}
-use Rattle.camac.specs.model.Answers.{wordFlags, waitFlags, canWait, wordsAhead, placeAfterWords}
+use Rattle.camac.specs.model.Answers.{wordFlags, canWait, wordsAhead, placeAfterWords}
 use Rattle.camac.specs.declared.modes.Answer.{Answer}
 use Rattle.camac.specs.declared.modes.QMode.{QMode}
 use Rattle.camac.specs.declared.modes.QMode.the-variants.{Stop, Ignore, Repeat, Scan}
@@ -27,7 +26,6 @@ use Rattle.listfile.specs.declared.check.Sizes.{Sizes}
 use Rattle.listfile.specs.declared.field.Instruction.{Instruction}
 use Rattle.listfile.specs.declared.field.Instruction.the-variants.{Camac, Jump, Literal, Halt}
 use Rattle.walk.specs.Walk.{spotAfter, Visit, movedBy, moved, marksOver}
-use Rattle.walk.specs.Admission.{Plan}
 use Rattle.walk.specs.model.Sums.{restFrom, planBy}
 use Rattle.walk.specs.declared.visits.Spot.{Spot}
 use Rattle.walk.proofs.Halting.{Halts, halts}
@@ -44,7 +42,7 @@ use Rattle.whole_run.specs.model.Words.{AnswersTo, longwordIn, flagsAt, 
 use Rattle.whole_run.specs.model.Visit.{rulesOf, positionAt, recordAt, marksBehind, noteBehind, afterWords, bytesBy, bytesAfter, afterWait, Words, Waits, Passed, none, words, wait}
 use Rattle.whole_run.specs.declared.visit.Rules.{Rules}
 use Rattle.whole_run.specs.declared.visit.Stay.{Stay}
-use Rattle.whole_run.proofs.WordLaws.{formed-from, reply-eight, reply-flags, dataAt, reply-answered, reply-longword, words-fewer}
+use Rattle.whole_run.proofs.WordLaws.{formed-from, reply-flags, dataAt, reply-answered, reply-longword, words-fewer}
 use Rattle.whole_run.proofs.Flags.{Fine, flags-word, flags-wait}
 use Rattle.whole_run.proofs.VisitRoom.{marks-add, ahead-most, bytes-length}
 use Rattle.whole_run.proofs.Turns.{stays-here, stays-on, stays, going, through-goes, through-stage}

@@ -7,7 +7,7 @@ use borrow.Author.Needs.{needs}
 use lib.ListN.{length}
 use Rattle.reply.specs.declared.records.Record.{Record}
 use Rattle.step.proofs.PlanLaws.{askable}
-use Rattle.whole_run.proofs.RunTurn.{Standing, Behind, grounds-table, waiting, standing-start, standing-spot, standing-position, standing-roomy, standing-on, standing-later, standing-behind, standing-stop, next-taken, standing-next, behind-halt}
+use Rattle.whole_run.proofs.RunTurn.{Standing, grounds-table, waiting, standing-start, standing-spot, standing-position, standing-roomy, standing-on, standing-later, standing-behind, standing-stop, next-taken, standing-next, behind-halt}
 use Rattle.whole_run.proofs.along.run_answers.Statement.{statement}
 use Rattle.whole_run.proofs.along.run_answers.Tie as tie
 

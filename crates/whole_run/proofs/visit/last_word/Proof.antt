@@ -1,6 +1,5 @@
 -- `last_word` stores the word of a read; a write and a control store nothing.
 use Rattle.whole_run.proofs.VisitRoom.{read-one, words-left, bytes-one, bytes-written, bytes-controlled}
-use mathlib.Core.Path.{refl, sym, _∙_}
 use native.Mathlib.Omega.{arith}
 use borrow.Author.Needs.{needs}
 use Rattle.whole_run.proofs.visit.last_word.Statement.{statement}

@@ -4,7 +4,7 @@ use Prim.Native.Nat.{_-_}
 use mathlib.Core.Path.{_≡_, refl, sym, _∙_}
 use native.Mathlib.Omega.{arith}
 use borrow.Author.Needs.{needs}
-use borrow.Author.Tests.{not-true, not-false}
+use borrow.Author.Tests.{not-false}
 use lib.ListN.{length}
 use Rattle.whole_run.specs.model.Visit.{Passed, none, Roomy}
 use Rattle.whole_run.proofs.VisitRoom.{small-incoming, small-outgoing, words-left, one-word, words-turn, wait-turn, words-taken, wait-taken}
