@@ -1,17 +1,14 @@
 -- A word or a wait taken at the record that a stay stands for leaves the record of the next stay: it is no cause, its flags are gathered, and what
 -- it moves is in the closed form. A last word leaves the walk behind it, which looks at marks, operations, status and note alone.
-use Prim.Native.Nat.{ℕ, zero, suc, _+_, _-_, _*_, _/_, _%_, _≤_, _<_}
-use mathlib.Core.Path.{_≡_, refl, sym, ap, _∙_, subst}
-use mathlib.Core.Bool.{Bool, true, false, _&&_, not, false≢true}
-use mathlib.Core.List.{List, [], _∷_}
-use mathlib.Core.Option.{some}
+use Prim.Native.Nat.{ℕ, suc, _+_, _-_, _*_, _/_, _%_, _≤_, _<_}
+use mathlib.Core.Path.{_≡_, refl, sym, ap, _∙_}
+use mathlib.Core.Bool.{Bool, true, false, _&&_}
+use mathlib.Core.List.{List}
 use native.Mathlib.Omega.{arith}
 use borrow.Author.Tests.{eq-eqb, ne-eqb, lt-ltb, ltb-true, ltb-false}
-use lib.Bits.{bitAnd, bitOr, or-zero-l}
-use lib.Dec.{eqb, ltb}
-use lib.ListN.{length, take, drop}
+use lib.Bits.{bitOr, or-zero-l}
+use lib.Dec.{ltb}
 use Rattle.base.proofs.Tests.{on}
-use Rattle.base.specs.Checks.{if_then_else_}
 use Rattle.camac.specs.Words.{qmodeOf, directionOf}
 use Rattle.camac.specs.Scan.{afterDone, afterOther}
 use Rattle.camac.specs.Modes.{done, spent, ranOff, leaves, scanLeaves, noX, noQInStop, triesAfter, positionAfter}
@@ -19,32 +16,25 @@ use Rattle.camac.specs.model.Answers.{canWait, wordsAhead, placeAfterWords, pla
 use Rattle.camac.specs.declared.modes.Answer.{Answer}
 use Rattle.camac.specs.declared.modes.QMode.{QMode}
 use Rattle.camac.specs.declared.modes.QMode.the-variants.{Stop, Ignore, Repeat, Scan}
-use Rattle.camac.specs.declared.scan.ScanPosition.{ScanPosition}
-use Rattle.camac.specs.declared.scan.Moved.{Moved}
 use Rattle.camac.specs.declared.words.Command.{Command}
 use Rattle.camac.specs.declared.words.Direction.{Direction}
 use Rattle.camac.specs.declared.words.Direction.the-variants.{Incoming, Outgoing, Neither}
-use Rattle.packing.specs.Packing.{widthOf, markAfter, markAfterWords, stored}
+use Rattle.packing.specs.Packing.{widthOf, markAfter, markAfterWords}
 use Rattle.packing.specs.declared.Marks.{Marks}
-use Rattle.listfile.specs.declared.field.Instruction.{Instruction}
-use Rattle.listfile.specs.declared.field.Instruction.the-variants.{Camac, Jump, Literal, Halt}
-use Rattle.walk.specs.Walk.{Visit, movedBy, moved}
+use Rattle.walk.specs.Walk.{movedBy, moved}
 use Rattle.walk.specs.declared.visits.Spot.{Spot}
-use Rattle.walk.proofs.Halting.{Halts}
 use Rattle.reply.specs.Causes.{codeOf, parityError}
 use Rattle.reply.specs.Status.{flagsOf}
-use Rattle.reply.specs.Effect.{State, runOn, waitsFor, endedAt, putLiteral, noteAfter, movedRecord, movedBytes, counted, waiting, longwordOf, stateOf}
+use Rattle.reply.specs.Effect.{noteAfter, movedRecord, movedBytes, counted, waiting, longwordOf}
 use Rattle.reply.specs.model.Here.{onRun, hereRun, hereBuffer}
-use Rattle.reply.specs.declared.records.Note.{Note}
 use Rattle.reply.specs.declared.records.Record.{Record}
 use Rattle.reply.specs.declared.replies.Reply.the-variants.{Answered}
 use Rattle.reply.specs.declared.take.Taken.the-variants.{Same, Through}
 use Rattle.reply.proofs.CodeCases.{code-0}
-use Rattle.whole_run.specs.model.Words.{longwordIn, flagsAt, flagBits, gatheredBits, answerBy}
-use Rattle.whole_run.specs.model.Visit.{rulesOf, positionAt, recordAt, marksBehind, noteBehind, afterWords, bytesAfter, afterWait, Words, Waits}
+use Rattle.whole_run.specs.model.Words.{flagsAt, flagBits, gatheredBits, answerBy}
+use Rattle.whole_run.specs.model.Visit.{rulesOf, positionAt, recordAt, marksBehind, noteBehind, afterWords, afterWait}
 use Rattle.whole_run.specs.declared.visit.Stay.{Stay}
 use Rattle.whole_run.proofs.BitLaws.{or-assoc}
-use Rattle.whole_run.proofs.Flags.{Fine, flags-word, flags-wait}
 
 -- Positions --------------------------------------------------------------------------------------------------------------
 

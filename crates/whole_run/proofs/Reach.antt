@@ -63,10 +63,15 @@ pub record Passes (list : List ℕ) (n : ℕ) (k : Spot) (m : Marks) (b : List �
   pub goes : (r : Record) (out : List ℕ)
       → runOn (restFrom list n k) (stateOf (withMarks m r) b out) ≡ runOn (restFrom list n j) (stateOf (withMarks m′ r) b′ out)
 
-module _ {list table : List ℕ} {n : ℕ} {k : Spot} {place : ℕ} {m : Marks} {b : List ℕ} (right : TableRight list table n)
-    (ep : place ≡ getD table (k .instruction) 0) (a : Ahead list n k m b) where
+-- at a spot of the walk, whose field the table has at a place
+pub record Here (list table : List ℕ) (n : ℕ) (k : Spot) (place : ℕ) (m : Marks) (b : List ℕ) : Type 0 where
+  pub right : TableRight list table n
+  pub is : place ≡ getD table (k .instruction) 0
+  pub ahead : Ahead list n k m b
+
+module _ {list table : List ℕ} {n : ℕ} {k : Spot} {place : ℕ} {m : Marks} {b : List ℕ} (h : Here list table n k place m b) where
   pub field : FieldPassed list place
-  field = field-passed list table n (k .instruction) place right (within list n k (a .on)) ep
+  field = field-passed list table n (k .instruction) place (h .right) (within list n k (h .ahead .on)) (h .is)
 
   lies : Lies list place (field .count)
   lies = field-lies list place (field .count) (instructionAt list place) (field .read)
@@ -74,29 +79,23 @@ module _ {list table : List ℕ} {n : ℕ} {k : Spot} {place : ℕ} {m : Marks} 
   pub inside : place + 3 ≤ length list
   inside = omega (arith, lies .inside)
 
+  pub tagged : {byte : ℕ} → getD list place 0 ≡ byte → tagAt list place ≡ tagOf byte
+  unfolding byteAt
+  tagged e = ap tagOf e
+
+  known : (getD list place 0 ≡ 0x10) ⊎ ((getD list place 0 ≡ 0x20) ⊎ ((getD list place 0 ≡ 0x21) ⊎ (getD list place 0 ≡ 0x2F)))
+  unfolding byteAt
+  known = known-byte (getD list place 0) (bodyLength list place) (lies .right)
+
   -- a CAMAC instruction has the least byte of the four, and a literal what no other has
   pub camac-tag : getD list place 0 < 0x20 → tagAt list place ≡ CamacTag
-  unfolding byteAt
-  camac-tag h =
-      ⊎-elim (λ e. rw e) (⊎-elim (λ e. absurd (omega arith)) (⊎-elim (λ e. absurd (omega arith)) (λ e. absurd (omega arith))))
-      (known-byte (getD list place 0) (bodyLength list place) (lies .right))
-
-  pub jump-tag : getD list place 0 ≡ 0x20 → tagAt list place ≡ JumpTag
-  unfolding byteAt
-  jump-tag e = rw e
-
-  pub halt-tag : getD list place 0 ≡ 0x2F → tagAt list place ≡ HaltTag
-  unfolding byteAt
-  halt-tag e = rw e
+  camac-tag l = ⊎-elim (λ e. tagged e) (⊎-elim (λ e. absurd (omega arith)) (⊎-elim (λ e. absurd (omega arith)) (λ e. absurd (omega arith)))) known
 
   pub literal-tag : 0x20 ≤ getD list place 0 → ¬ (getD list place 0 ≡ 0x2F) → ¬ (getD list place 0 ≡ 0x20) → tagAt list place ≡ LiteralTag
-  unfolding byteAt
-  literal-tag h x y =
-      ⊎-elim (λ e. absurd (omega arith)) (⊎-elim (λ e. absurd (y e)) (⊎-elim (λ e. rw e) (λ e. absurd (x e))))
-      (known-byte (getD list place 0) (bodyLength list place) (lies .right))
+  literal-tag l x y = ⊎-elim (λ e. absurd (omega arith)) (⊎-elim (λ e. absurd (y e)) (⊎-elim (λ e. tagged e) (λ e. absurd (x e)))) known
 
   here-too : instructionAt list (getD table (k .instruction) 0) ≡ instructionAt list place
-  here-too = ap (instructionAt list) (sym ep)
+  here-too = ap (instructionAt list) (sym (h .is))
 
   pub at-halt : tagAt list place ≡ HaltTag → instructionAt list (getD table (k .instruction) 0) ≡ Halt
   unfolding instructionBy
@@ -114,18 +113,18 @@ module _ {list table : List ℕ} {n : ℕ} {k : Spot} {place : ℕ} {m : Marks} 
   }
 
   going : (r : Record) → Going list n k (withMarks m r) b
-  going r = record { on = a .on; room = a .room }
+  going r = record { on = h .ahead .on; room = h .ahead .room }
 
   passes : (i : Instruction) → i ≡ instructionAt list place → (j : Spot) (m′ : Marks) (b′ : List ℕ)
       → ((r : Record) → advanceRun i k (withMarks m r) ≡ On j (withMarks m′ r))
       → ((r : Record) → b′ ≡ advanceBuffer i (withMarks m r) b)
       → Passes list n k m b j m′ b′
   passes i ei j m′ b′ e eb =
-      let at = onward list table n k place i right ep ei _ b (going (zeroRecord false)) j _ b′ (e (zeroRecord false)) (eb (zeroRecord false)) in
+      let at = onward list table n k place i (h .right) (h .is) ei _ b (going (zeroRecord false)) j _ b′ (e (zeroRecord false)) (eb (zeroRecord false)) in
       record {
         ahead = record { on = at .0 .on; room = at .0 .room };
         less = at .1;
-        goes = λ r out. onward list table n k place i right ep ei _ b (going r) j _ b′ (e r) (eb r) .2 out;
+        goes = λ r out. onward list table n k place i (h .right) (h .is) ei _ b (going r) j _ b′ (e r) (eb r) .2 out;
       }
 
   pub over-jump : tagAt list place ≡ JumpTag → (target : ℕ) → target ≡ shortAt list (place + 3) → (j : Spot) → j ≡ jumpTo target k
@@ -147,7 +146,7 @@ module _ {list table : List ℕ} {n : ℕ} {k : Spot} {place : ℕ} {m : Marks} 
     pub literal-room : markAfter true (m .incoming) ≤ length b
     literal-room =
         let r = withMarks m (zeroRecord false) in
-        subst (λ (x : Instruction). RoomFor x r b) literal (room-here list table n k place _ right ep refl r b (going r))
+        subst (λ (x : Instruction). RoomFor x r b) literal (room-here list table n k place _ (h .right) (h .is) refl r b (going r))
 
     pub over-literal : (v : ℕ) → v ≡ longAt list (place + 3) → (j : Spot) → j ≡ spotAfter k → (m′ : Marks) → m′ ≡ movedBy Incoming true m → (b′ : List ℕ)
         → b′ ≡ stored true v (m .incoming) b

@@ -1,9 +1,9 @@
 -- One turn of the loop over instructions: from a stay at an instruction over its answers and on along the walk to the next one, or to the halt. A stay
 -- stands for the record that a run has there, whose position is that of a CAMAC word or of a scan and so one number below 512.
-use Prim.Native.Nat.{ℕ, _+_, _-_, _*_, _/_, _%_, _^_, _≤_, _<_}
+use Prim.Native.Nat.{ℕ, _+_, _-_, _*_, _/_, _%_, _≤_, _<_}
 use mathlib.Core.Path.{_≡_, refl, sym, ap, _∙_, subst}
 use mathlib.Core.Logic.{inl, inr}
-use mathlib.Core.Bool.{Bool, true, false}
+use mathlib.Core.Bool.{true, false}
 use mathlib.Core.List.{List, [], _∷_}
 use native.Mathlib.Omega.{arith}
 use lib.Bits.{bitOr, or-zero-r}
@@ -23,10 +23,10 @@ use Rattle.listfile.specs.Fields.{tagAt, firstAt, secondAt}
 use Rattle.listfile.specs.model.Table.{instructionBy, instructionAt, FieldPassed}
 use Rattle.listfile.specs.declared.check.Sizes.{Sizes}
 use Rattle.listfile.specs.declared.field.Instruction.{Instruction}
-use Rattle.listfile.specs.declared.field.Instruction.the-variants.{Camac, Jump, Literal, Halt}
+use Rattle.listfile.specs.declared.field.Instruction.the-variants.{Camac, Halt}
 use Rattle.listfile.specs.declared.field.Tag.{Tag}
 use Rattle.listfile.specs.declared.field.Tag.the-variants.{CamacTag, JumpTag, LiteralTag, HaltTag, UnknownTag}
-use Rattle.walk.specs.Walk.{spotAfter, Visit, movedWords, marksOver}
+use Rattle.walk.specs.Walk.{spotAfter, Visit, movedWords}
 use Rattle.walk.specs.model.Sums.{restFrom, planBy}
 use Rattle.walk.specs.declared.visits.Spot.{Spot}
 use Rattle.walk.proofs.Rest.{OnWalk}
@@ -86,10 +86,6 @@ marks-words c k m = go (directionOf (c .transfer)) refl
     go Incoming e = words-incoming c Incoming (sym e) m refl k
     go Outgoing e = words-outgoing c Outgoing (sym e) m refl k
     go Neither e = words-neither c Neither (sym e) m refl k
-
-stay-taken : (r : Record) (from : ℕ) → (from ≤ stayOf r from .taken) × (from ≡ stayOf r from .taken)
-unfolding stayOf
-stay-taken r from = (omega arith, refl)
 
 pub grounds-table : {list table : List ℕ} {s : Sizes} {room : ℕ} → Grounds list table s room → Tabled list table (s .count)
 grounds-table g = record {
@@ -152,22 +148,15 @@ pub record Behind (list : List ℕ) (s : Sizes) (row : List ℕ) (r : Record) (f
   pub goes : (out : List ℕ) → rowFrom (planBy list s) row (from * 8) (stateOf r b₀ out)
       ≡ rowFrom (planBy list s) row (u .taken * 8) (runOn (restFrom list (s .count) (spotAfter k)) (stateOf (recordAt r row from k u) b out))
 
-module _ (list table : List ℕ) (s : Sizes) (room : ℕ) (g : Grounds list table s room) (first second : ℕ) (r : Record)
+module _ {list table : List ℕ} {s : Sizes} {room : ℕ} (g : Grounds list table s room) (first second : ℕ) {r : Record}
     (al : Alive (planBy list s) (commandIn first second) r) where
-  abbrev command : Command
-  command = commandIn first second
-
-  numbers : FitNumbers (planBy list s) r command
+  numbers : FitNumbers (planBy list s) r (commandIn first second)
   numbers = fits-numbers (planBy list s) (grounds-sound list table s room g) r (al .fit) (al .waits)
 
   alive-placed : Placed (r .position)
-  alive-placed = ok-placed (qmodeOf (command .transfer)) (positionOf (command .transfer)) (r .position) (command-placed first second) (numbers .position)
-
-  alive-scan : qmodeOf (command .transfer) ≡ Scan → r .position .station ≤ 23
-  alive-scan e = ok-scan (qmodeOf (command .transfer)) (positionOf (command .transfer)) (r .position) (numbers .position) e
-
-  alive-tries : r .tries < 65536
-  alive-tries = omega (arith, numbers .tries-most, g .prepared .planned .small)
+  alive-placed =
+      ok-placed (qmodeOf (commandIn first second .transfer)) (positionOf (commandIn first second .transfer)) (r .position) (command-placed first second)
+      (numbers .position)
 
   -- the record of its own stay
   stay-again : (row : List ℕ) (from : ℕ) → recordAt r row from (r .spot) (stayOf r from) ≡ r
@@ -196,31 +185,25 @@ module _ {list table row b₀ : List ℕ} {s : Sizes} {answers from : ℕ} {r : 
   pub standing-start : {place first : ℕ} {u : Stay} → FormedFrom row (from * 8) → Waiting list s r place → (first ≡ firstAt list place) × Passes first
       → u ≡ stayOf r from
       → Standing list s first row r from b₀ (r .spot) u b₀
+  unfolding stayOf
   standing-start {place} {first} f w p eu =
+      let al = subst (λ (x : ℕ). Alive (planBy list s) (commandIn x (secondAt list place)) r) (sym (p .0)) (w .alive) in
+      let again = stay-again g first (secondAt list place) al row from in
       subst (λ (u : Stay). Standing list s first row r from b₀ (r .spot) u b₀) (sym eu) (record {
         second = secondAt list place;
         passes = p .1;
         alive = subst (Alive (planBy list s) (commandIn first (secondAt list place))) (sym again) al;
-        onward = taken .0;
-        formed = subst (λ (n : ℕ). FormedFrom row (n * 8)) (taken .1) f;
+        onward = omega arith;
+        formed = f;
         kept = refl;
-        goes = λ out. λ i. rowFrom (planBy list s) row (taken .1 i * 8) (stateOf (sym again i) b₀ out);
+        goes = λ out. ap (λ (z : Record). rowFrom (planBy list s) row (from * 8) (stateOf z b₀ out)) (sym again);
       })
-    where
-      taken : (from ≤ stayOf r from .taken) × (from ≡ stayOf r from .taken)
-      taken = stay-taken r from
-
-      al : Alive (planBy list s) (commandIn first (secondAt list place)) r
-      al = subst (λ (x : ℕ). Alive (planBy list s) (commandIn x (secondAt list place)) r) (sym (p .0)) (w .alive)
-
-      again : recordAt r row from (r .spot) (stayOf r from) ≡ r
-      again = stay-again list table s (length b₀) g first (secondAt list place) r al row from
 
   module _ {first : ℕ} {k : Spot} {u : Stay} {b : List ℕ} (x : Standing list s first row r from b₀ k u b) where
     -- its numbers have room
     pub standing-position : u .position < 512
     unfolding recordAt
-    standing-position = omega (arith, alive-placed list table s (length b₀) g first (x .second) (recordAt r row from k u) (x .alive) .station)
+    standing-position = omega (arith, alive-placed g first (x .second) (x .alive) .station)
 
     pub standing-spot : k .instruction < 65536
     unfolding recordAt
@@ -229,10 +212,6 @@ module _ {list table row b₀ : List ℕ} {s : Sizes} {answers from : ℕ} {r : 
       in-table list table s (g .counts) (length b₀) (g .outgoing) (g .prepared) (recordAt r row from k u) (commandIn first (x .second)) (x .alive .rest) (x .alive .waits),
       g .prepared .entries,
     )
-
-    pub standing-left : 1 ≤ u .left
-    unfolding recordAt
-    standing-left = numbers list table s (length b₀) g first (x .second) (recordAt r row from k u) (x .alive) .left-least
 
     pub standing-roomy : {rules : Rules} → ((second : ℕ) → rules ≡ rulesOf (commandIn first second)) → Roomy rules row answers u b
     unfolding recordAt rulesOf
@@ -244,9 +223,9 @@ module _ {list table row b₀ : List ℕ} {s : Sizes} {answers from : ℕ} {r : 
           within = answered .within;
           taken = x .formed .within;
           left = n .most;
-          tries = alive-tries list table s (length b₀) g first (x .second) (recordAt r row from k u) (x .alive);
+          tries = omega (arith, numbers g first (x .second) (x .alive) .tries-most, g .prepared .planned .small);
           position = omega (arith, standing-position);
-          scan = λ some q. omega (arith, alive-scan list table s (length b₀) g first (x .second) (recordAt r row from k u) (x .alive) q);
+          scan = λ some q. omega (arith, ok-scan _ _ _ (numbers g first (x .second) (x .alive) .position) q);
           incoming = omega (arith, n .room, ap (λ (y : Marks). y .incoming) m);
           small = omega (arith, n .incoming-behind, ap (λ (y : Marks). y .incoming) m);
           outgoing = omega (arith, n .outgoing-behind, ap (λ (y : Marks). y .outgoing) m);
@@ -256,7 +235,9 @@ module _ {list table row b₀ : List ℕ} {s : Sizes} {answers from : ℕ} {r : 
     module _ {rules : Rules} {v : Stay} {y : List ℕ} (is : (second : ℕ) → rules ≡ rulesOf (commandIn first second))
         (p : Passed rules (s .limit) row answers u b v y) where
       led : Leads list table s (length b₀) g (commandIn first (x .second)) row (answered .formed) answers (answered .within) (answered .kinds) r from k u b v y
-      led = leads list table s (length b₀) g (commandIn first (x .second)) row (answered .formed) answers (answered .within) (answered .kinds) r from k (x .kept) (x .onward) (x .alive) standing-left
+      unfolding recordAt
+      led = leads list table s (length b₀) g (commandIn first (x .second)) row (answered .formed) answers (answered .within) (answered .kinds) r from k (x .kept) (x .onward) (x .alive)
+          (numbers g first (x .second) (x .alive) .left-least)
           (x .formed .within) (subst (λ (z : Rules). Passed z (s .limit) row answers u b v y) (is (x .second)) p)
 
       pub standing-on : ¬ (v .left ≡ 0) → Standing list s first row r from b₀ k v y
@@ -297,10 +278,6 @@ module _ {list table row b₀ : List ℕ} {s : Sizes} {answers from : ℕ} {r : 
 
   module _ {k : Spot} {u : Stay} {b y : List ℕ} {x : Reached} (h : Behind list s row r from b₀ k u b)
       (t : Reaches list table (s .count) (spotAfter k) (u .marks) b x y) where
-    marks-are : recordAt r row from k u .marks ≡ u .marks
-    unfolding recordAt
-    marks-are = refl
-
     abbrev carried : Record
     carried = withMarks (x .marks) (recordAt r row from k u)
 
@@ -314,8 +291,9 @@ module _ {list table row b₀ : List ℕ} {s : Sizes} {answers from : ℕ} {r : 
     comes : (i : Instruction) → instruction ≡ i → (out : List ℕ)
         → runOn (restFrom list (s .count) (spotAfter k)) (stateOf (recordAt r row from k u) b out)
         ≡ runOn (record { spot = x .spot; place = getD table (x .spot .instruction) 0; instruction = i } ∷ here .rest) (stateOf carried y out)
+    unfolding recordAt
     comes i e out =
-        t .goes (recordAt r row from k u) marks-are out ∙ ap (λ (vs : List Visit). runOn vs (stateOf carried y out)) (here .same)
+        t .goes (recordAt r row from k u) refl out ∙ ap (λ (vs : List Visit). runOn vs (stateOf carried y out)) (here .same)
         ∙ ap (λ (i : Instruction). runOn (record { spot = x .spot; place = getD table (x .spot .instruction) 0; instruction = i } ∷ here .rest)
         (stateOf carried y out)) e
 
@@ -344,12 +322,11 @@ module _ {list table row b₀ : List ℕ} {s : Sizes} {answers from : ℕ} {r : 
       unfolding runOn
       waits out = comes (Camac c) (t .command q .is) out ∙ ap (λ (z : Record). stateOf z y out) arrives
 
-      arrived-stage : Stage (planBy list s) (recordAt r row from (x .spot) (arrived c (x .marks) u))
-      arrived-stage = subst (λ (z : State). Stage (planBy list s) (z .run)) (waits []) (h .stage)
-
       arrived-alive : Alive (planBy list s) c (recordAt r row from (x .spot) (arrived c (x .marks) u))
       unfolding recordAt
-      arrived-alive = decoded-as list table s (length b₀) g (recordAt r row from (x .spot) (arrived c (x .marks) u)) arrived-stage refl instruction refl c (t .command q .is)
+      arrived-alive =
+          decoded-as list table s (length b₀) g (recordAt r row from (x .spot) (arrived c (x .marks) u))
+          (subst (λ (z : State). Stage (planBy list s) (z .run)) (waits []) (h .stage)) refl instruction refl c (t .command q .is)
 
       module _ {v : Stay}
           (f : (second : ℕ) → x .words ≡ wordsOf (commandIn (x .first) second .transfer) → v ≡ arrived (commandIn (x .first) second) (x .marks) u) where
@@ -374,14 +351,10 @@ module _ {list table row b₀ : List ℕ} {s : Sizes} {answers from : ℕ} {r : 
 
     -- the halt
     module _ (q : x .halted ≡ true) where
-      halted-at : endedAt (x .spot) 0 carried ≡ endedAt (x .spot) 0 (recordAt r row from (x .spot) (between (x .marks) u))
-      unfolding recordAt endedAt between
-      halted-at = refl
-
       halts : (out : List ℕ) → runOn (restFrom list (s .count) (spotAfter k)) (stateOf (recordAt r row from k u) b out)
           ≡ stateOf (stopRecord r row from (record { spot = x .spot; stay = between (x .marks) u; halted = true })) y out
-      unfolding runOn stopRecord
-      halts out = comes Halt (t .halt q) out ∙ ap (λ (z : Record). stateOf z y out) halted-at
+      unfolding runOn stopRecord recordAt endedAt between
+      halts out = comes Halt (t .halt q) out
 
       pub behind-halt : {v : Stay} → v ≡ between (x .marks) u
           → Moves (planBy list s) row r (from * 8) b₀ (stopRecord r row from (record { spot = x .spot; stay = v; halted = true })) (v .taken * 8) y

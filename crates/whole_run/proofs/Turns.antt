@@ -49,14 +49,6 @@ module _ (p : Plan) (c : Command) (row : List ℕ) where
       → Stays p c row r from b r₂ at₂ b₂
   stays-on x y = record { alive = y .alive; formed = y .formed; goes = λ outgoing. x .goes outgoing ∙ y .goes outgoing }
 
-  pub stays-moves : {r r₁ r₂ : Record} {from at₁ at₂ : ℕ} {b b₁ b₂ : List ℕ} → Stays p c row r from b r₁ at₁ b₁
-      → Moves p row r₁ at₁ b₁ r₂ at₂ b₂
-      → Moves p row r from b r₂ at₂ b₂
-  stays-moves x y = record { stage = y .stage; formed = y .formed; goes = λ outgoing. x .goes outgoing ∙ y .goes outgoing }
-
-  pub stays-stage : {r r′ : Record} {from at : ℕ} {b b′ : List ℕ} → Stays p c row r from b r′ at b′ → Moves p row r from b r′ at b′
-  stays-stage x = record { stage = inr (x .alive .fit); formed = x .formed; goes = x .goes }
-
 module _ (p : Plan) (row : List ℕ) where
   pub moves-none : (r : Record) (at : ℕ) (b : List ℕ) → Stage p r → FormedFrom row at → Moves p row r at b r at b
   moves-none r at b st f = record { stage = st; formed = f; goes = λ outgoing. refl }

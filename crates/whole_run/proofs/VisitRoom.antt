@@ -1,6 +1,6 @@
 -- The room of a stay is kept by words and waits: marks behind j and then k words are those behind j + k, and a scan that can do k words has not
 -- left behind them, unless they were its last.
-use Prim.Native.Nat.{ℕ, zero, suc, _+_, _-_, _*_, _/_, _%_, _^_, _≤_, _<_}
+use Prim.Native.Nat.{ℕ, zero, suc, _+_, _-_, _*_, _%_, _^_, _≤_, _<_}
 use mathlib.Core.Path.{_≡_, refl, sym, ap, _∙_, subst}
 use mathlib.Core.Bool.{Bool, true, false, false≢true}
 use mathlib.Core.List.{List}
@@ -10,7 +10,6 @@ use lib.Bits.{bitAnd}
 use lib.Dec.{eqb, ltb}
 use lib.ListN.{length}
 use Rattle.base.proofs.Tests.{on}
-use Rattle.base.specs.Checks.{if_then_else_}
 use Rattle.camac.specs.Modes.{triesAfter}
 use Rattle.camac.specs.model.Answers.{canWait, wordsAhead, placeAfterWords, placeAfterWait}
 use Rattle.camac.specs.declared.modes.QMode.{QMode}
@@ -21,7 +20,7 @@ use Rattle.packing.specs.Packing.{widthOf, markAfter, markAfterWords, stored}
 use Rattle.packing.specs.declared.Marks.{Marks}
 use Rattle.packing.proofs.MarkFacts.{mark-grows}
 use Rattle.whole_run.specs.model.Words.{longwordIn, flagsAt, WordsAt, wordsStored}
-use Rattle.whole_run.specs.model.Visit.{marksBehind, NoteRoom, afterWords, bytesBy, bytesAfter, afterWait, Words, Waits, Passed, none, words, wait, Roomy}
+use Rattle.whole_run.specs.model.Visit.{marksBehind, NoteRoom, afterWords, bytesBy, bytesAfter, afterWait, Words, Waits, Passed, words, wait, Roomy}
 use Rattle.whole_run.specs.declared.visit.Rules.{Rules}
 use Rattle.whole_run.specs.declared.visit.Stay.{Stay}
 use Rattle.whole_run.proofs.WordLaws.{words-length, words-none, words-more}
@@ -81,10 +80,10 @@ bytes-length rules row k s b = go (rules .direction)
     go Neither = refl
 
 module _ (rules : Rules) (row : List ℕ) (s : Stay) (b : List ℕ) where
-  pub bytes-read : (k : ℕ) (b′ : List ℕ) → rules .direction ≡ Incoming → b′ ≡ wordsStored (rules .wide) row (s .taken) (s .marks .incoming) k b
+  pub bytes-by : (k : ℕ) (d : Direction) (b′ : List ℕ) → rules .direction ≡ d → b′ ≡ bytesBy d (rules .wide) row (s .taken) (s .marks .incoming) k b
       → b′ ≡ bytesAfter rules row k s b
   unfolding bytesAfter
-  bytes-read k b′ e h = h ∙ rw e
+  bytes-by k d b′ e h = h ∙ rw e
 
   -- one word
   pub bytes-one : (b′ : List ℕ) → rules .direction ≡ Incoming → b′ ≡ stored (rules .wide) (longwordIn row (s .taken * 8)) (s .marks .incoming) b
@@ -92,15 +91,7 @@ module _ (rules : Rules) (row : List ℕ) (s : Stay) (b : List ℕ) where
   unfolding wordsStored markAfterWords
   bytes-one b′ e h =
       let same : s .taken * 8 ≡ (s .taken + 0) * 8 = omega arith in
-      bytes-read 1 b′ e (h ∙ ap (λ (at : ℕ). stored (rules .wide) (longwordIn row at) (s .marks .incoming) b) same)
-
-  pub bytes-written : (k : ℕ) → rules .direction ≡ Outgoing → b ≡ bytesAfter rules row k s b
-  unfolding bytesAfter
-  bytes-written k e = rw e
-
-  pub bytes-controlled : (k : ℕ) → rules .direction ≡ Neither → b ≡ bytesAfter rules row k s b
-  unfolding bytesAfter
-  bytes-controlled k e = rw e
+      bytes-by 1 Incoming b′ e (h ∙ ap (λ (at : ℕ). stored (rules .wide) (longwordIn row at) (s .marks .incoming) b) same)
 
 -- Positions --------------------------------------------------------------------------------------------------------------
 
@@ -134,20 +125,15 @@ scan-behind Scan position left k p h some e =
     (λ t. let g : k ≤ 0x17F - position = rw t at h in omega (arith, p refl))
     (λ t. let g : k ≤ left = rw t at h in omega (arith, p refl, ltb-false (0x17F - position + 1) left t))
 
-place-words : (q : QMode) (position k : ℕ) → position < 65536 → (q ≡ Scan → placeAfterWords q position k ≤ 0x180) → placeAfterWords q position k < 65536
-place-words Stop position k h p = h
-place-words Ignore position k h p = h
-place-words Repeat position k h p = h
-place-words Scan position k h p = omega (arith, p refl)
-
-scan-most : (q : QMode) (position left k : ℕ) → (q ≡ Scan → position ≤ 0x17F) → k ≤ wordsAhead q position left → q ≡ Scan → placeAfterWords q position k ≤ 0x180
-scan-most Stop position left k p h e = let z : _≡_ {A = ℕ} 0 1 = cc in absurd (omega arith)
-scan-most Ignore position left k p h e = let z : _≡_ {A = ℕ} 0 1 = cc in absurd (omega arith)
-scan-most Repeat position left k p h e = let z : _≡_ {A = ℕ} 0 1 = cc in absurd (omega arith)
-scan-most Scan position left k p h e =
+place-words : (q : QMode) (position left k : ℕ) → position < 65536 → (q ≡ Scan → position ≤ 0x17F) → k ≤ wordsAhead q position left
+    → placeAfterWords q position k < 65536
+place-words Stop position left k h p w = h
+place-words Ignore position left k h p w = h
+place-words Repeat position left k h p w = h
+place-words Scan position left k h p w =
     on (ltb (0x17F - position + 1) left)
-    (λ t. let g : k ≤ 0x17F - position = rw t at h in omega (arith, p refl))
-    (λ t. let g : k ≤ left = rw t at h in omega (arith, p refl, ltb-false (0x17F - position + 1) left t))
+    (λ t. let g : k ≤ 0x17F - position = rw t at w in omega (arith, p refl))
+    (λ t. let g : k ≤ left = rw t at w in omega (arith, p refl, ltb-false (0x17F - position + 1) left t))
 
 place-wait : (q : QMode) (limit tries position : ℕ) → position < 65536 → canWait q limit tries position ≡ true → placeAfterWait q position < 65536
 place-wait Stop limit tries position h c = h
@@ -206,7 +192,7 @@ module _ (rules : Rules) (row : List ℕ) (answers : ℕ) (s : Stay) (b : List �
         taken = omega (arith, w .answered, m .within);
         left = omega (arith, m .left);
         tries = omega arith;
-        position = place-words (rules .q) (s .position) k (m .position) (scan-most (rules .q) (s .position) (s .left) k scan (w .ahead));
+        position = place-words (rules .q) (s .position) (s .left) k (m .position) scan (w .ahead);
         scan = λ some q. scan-behind (rules .q) (s .position) (s .left) k scan (w .ahead) some q;
         incoming = omega (arith, ap (λ (x : Marks). x .incoming) marks, m .incoming, e);
         small = omega (arith, ap (λ (x : Marks). x .incoming) marks, m .small);
@@ -260,10 +246,10 @@ module _ (rules : Rules) (limit : ℕ) (row : List ℕ) (answers : ℕ) (s : Sta
   pub wait-turn : limit < 65536 → Waits rules limit row answers t → (u : Stay) → u ≡ afterWait rules t → Kept u x
   wait-turn h w u eu = subst (λ (u : Stay). Kept u x) (sym eu) (wait p w, (roomy-wait rules row answers t x m limit h w, e))
 
-pub words-taken : (rules : Rules) (k : ℕ) (s u : Stay) → u ≡ afterWords rules k s → u .taken ≡ s .taken + k
+pub words-taken : (rules : Rules) (k : ℕ) (s u : Stay) → u ≡ afterWords rules k s → (u .taken ≡ s .taken + k) × (u .left ≡ s .left - k)
 unfolding afterWords
-words-taken rules k s u e = ap (λ (x : Stay). x .taken) e
+words-taken rules k s u e = (ap (λ (x : Stay). x .taken) e, ap (λ (x : Stay). x .left) e)
 
-pub wait-taken : (rules : Rules) (s u : Stay) → u ≡ afterWait rules s → u .taken ≡ s .taken + 1
+pub wait-taken : (rules : Rules) (s u : Stay) → u ≡ afterWait rules s → (u .taken ≡ s .taken + 1) × (u .left ≡ s .left)
 unfolding afterWait
-wait-taken rules s u e = ap (λ (x : Stay). x .taken) e
+wait-taken rules s u e = (ap (λ (x : Stay). x .taken) e, ap (λ (x : Stay). x .left) e)

@@ -6,15 +6,14 @@ use mathlib.Core.Bool.{Bool, true, false}
 use mathlib.Core.List.{List, [], _∷_}
 use mathlib.Core.Option.{some}
 use native.Mathlib.Omega.{arith}
-use borrow.Author.Tests.{eq-eqb, ltb-true, ltb-false, le-ltb, lt-ltb}
+use borrow.Author.Tests.{eq-eqb, ltb-true, ltb-false}
 use lib.Bits.{bitAnd}
-use lib.Dec.{eqb, ltb}
-use lib.ListN.{length, getD, take, drop}
+use lib.Dec.{ltb}
+use lib.ListN.{length, take, drop}
 use Rattle.base.proofs.Tests.{on}
-use Rattle.base.specs.Checks.{if_then_else_}
 use Rattle.camac.specs.Words.{qmodeOf, directionOf}
 use Rattle.camac.specs.Modes.{done, spent, scanLeaves}
-use Rattle.camac.specs.model.Answers.{wordFlags, waitFlags, canWait, wordsAhead, placeAfterWords}
+use Rattle.camac.specs.model.Answers.{wordFlags, canWait, wordsAhead, placeAfterWords}
 use Rattle.camac.specs.declared.modes.Answer.{Answer}
 use Rattle.camac.specs.declared.modes.QMode.{QMode}
 use Rattle.camac.specs.declared.modes.QMode.the-variants.{Stop, Ignore, Repeat, Scan}
@@ -27,7 +26,6 @@ use Rattle.listfile.specs.declared.check.Sizes.{Sizes}
 use Rattle.listfile.specs.declared.field.Instruction.{Instruction}
 use Rattle.listfile.specs.declared.field.Instruction.the-variants.{Camac, Jump, Literal, Halt}
 use Rattle.walk.specs.Walk.{spotAfter, Visit, movedBy, moved, marksOver}
-use Rattle.walk.specs.Admission.{Plan}
 use Rattle.walk.specs.model.Sums.{restFrom, planBy}
 use Rattle.walk.specs.declared.visits.Spot.{Spot}
 use Rattle.walk.proofs.Halting.{Halts, halts}
@@ -44,9 +42,9 @@ use Rattle.whole_run.specs.model.Words.{AnswersTo, longwordIn, flagsAt, 
 use Rattle.whole_run.specs.model.Visit.{rulesOf, positionAt, recordAt, marksBehind, noteBehind, afterWords, bytesBy, bytesAfter, afterWait, Words, Waits, Passed, none, words, wait}
 use Rattle.whole_run.specs.declared.visit.Rules.{Rules}
 use Rattle.whole_run.specs.declared.visit.Stay.{Stay}
-use Rattle.whole_run.proofs.WordLaws.{formed-from, reply-eight, reply-flags, dataAt, reply-answered, reply-longword, words-fewer}
+use Rattle.whole_run.proofs.WordLaws.{formed-from, reply-flags, dataAt, reply-answered, reply-longword, words-fewer}
 use Rattle.whole_run.proofs.Flags.{Fine, flags-word, flags-wait}
-use Rattle.whole_run.proofs.VisitRoom.{marks-add, ahead-most, bytes-length}
+use Rattle.whole_run.proofs.VisitRoom.{marks-add, ahead-most, bytes-length, words-taken, wait-taken}
 use Rattle.whole_run.proofs.Turns.{stays-here, stays-on, stays, going, through-goes, through-stage}
 use Rattle.whole_run.proofs.AnswerTurn.{NoCause, word-stays, last-stays, wait-stays, word-unspent, wait-unspent, word-run, last-run, wait-run, word-buffer, wait-buffer, next-word, next-wait, operations, status, note, marks-one}
 
@@ -64,38 +62,22 @@ unfolding runOn waitsFor endedAt putLiteral
 runs-alike [] h r r′ a b out = absurd h
 runs-alike (v ∷ vs) h r r′ a b out = at (v .instruction) h (runs-alike vs)
   where
+    -- what a visit leaves of the first is the second's
+    blend : r ≡ record { ended = r .ended; spot = r .spot; left = r .left; tries = r .tries; position = r .position; marks = r′ .marks; operations = r′ .operations; status = r′ .status; note = r′ .note }
+    blend = λ i. record { ended = r .ended; spot = r .spot; left = r .left; tries = r .tries; position = r .position; marks = a .marks i; operations = a .operations i; status = a .status i; note = a .note i }
+
     at : (i : Instruction) → Halts (record { spot = v .spot; place = v .place; instruction = i } ∷ vs)
         → (Halts vs → (r r′ : Record) → Alike r r′ → (b out : List ℕ) → runOn vs (stateOf r b out) ≡ runOn vs (stateOf r′ b out))
         → runOn (record { spot = v .spot; place = v .place; instruction = i } ∷ vs) (stateOf r b out)
         ≡ runOn (record { spot = v .spot; place = v .place; instruction = i } ∷ vs) (stateOf r′ b out)
-    at (Camac c) h ih = λ i. stateOf (waitsFor (v .spot) c (record {
-      ended = r .ended;
-      spot = r .spot;
-      left = r .left;
-      tries = r .tries;
-      position = r .position;
-      marks = a .marks i;
-      operations = a .operations i;
-      status = a .status i;
-      note = a .note i;
-    })) b out
+    at (Camac c) h ih = ap (λ (z : Record). stateOf (waitsFor (v .spot) c z) b out) blend
     at (Jump target) h ih = ih h r r′ a b out
     at (Literal x) h ih =
         ih h (withMarks (movedBy Incoming true (r .marks)) r) (withMarks (movedBy Incoming true (r′ .marks)) r′)
         (record { marks = ap (movedBy Incoming true) (a .marks); operations = a .operations; status = a .status; note = a .note })
         (stored true x (r .marks .incoming) b) out
         ∙ ap (λ (m : Marks). runOn vs (stateOf (withMarks (movedBy Incoming true (r′ .marks)) r′) (stored true x (m .incoming) b) out)) (a .marks)
-    at Halt h ih = λ i. stateOf (endedAt (v .spot) 0 (record {
-      ended = r .ended;
-      spot = r .spot;
-      left = r .left;
-      tries = r .tries;
-      position = r .position;
-      marks = a .marks i;
-      operations = a .operations i;
-      status = a .status i;
-      note = a .note i;
-    })) b out
+    at Halt h ih = ap (λ (z : Record). stateOf (endedAt (v .spot) 0 z) b out) blend
 
 -- Words one after the other --------------------------------------------------------------------------------------------------
 
@@ -178,18 +160,6 @@ module _ (rules : Rules) (row : List ℕ) (answers : ℕ) (s : Stay) where
     are = λ i h. let same : s .taken + j ≡ s .taken + j + i = omega arith in
         subst (λ (n : ℕ). bitAnd (flagsAt row n) (rules .word) ≡ rules .word % 4) same (w .are j (omega arith));
   }
-
-after-taken : (rules : Rules) (s : Stay) (j : ℕ) → afterWords rules j s .taken ≡ s .taken + j
-unfolding afterWords
-after-taken rules s j = refl
-
-after-left : (rules : Rules) (s : Stay) (j : ℕ) → afterWords rules j s .left ≡ s .left - j
-unfolding afterWords
-after-left rules s j = refl
-
-wait-taken : (rules : Rules) (s : Stay) → (afterWait rules s .taken ≡ s .taken + 1) × (afterWait rules s .left ≡ s .left)
-unfolding afterWait
-wait-taken rules s = (refl, refl)
 
 -- At an instruction --------------------------------------------------------------------------------------------------------
 
@@ -387,9 +357,9 @@ module _ (list table : List ℕ) (s : Sizes) (room : ℕ) (g : Grounds list tabl
   words-go u x onward al zero w few = word-once u onward al (omega (arith, w .answered)) x w (λ e. omega arith)
   words-go u x onward al (suc j) w few =
       let before = words-go u x onward al j (words-before (rulesOf c) row answers u j w) (omega arith) in
-      let taken = after-taken (rulesOf c) u (suc j) in
+      let taken = words-taken (rulesOf c) (suc j) u _ refl .0 in
       let one = word-once (afterWords (rulesOf c) (suc j) u) (omega (arith, taken)) (before .alive) (omega (arith, taken, w .answered))
-      (bytesAfter (rulesOf c) row (suc j) u x) (words-behind (rulesOf c) row answers u (suc j) w) (λ e. omega (arith, after-left (rulesOf c) u (suc j))) in
+      (bytesAfter (rulesOf c) row (suc j) u x) (words-behind (rulesOf c) row answers u (suc j) w) (λ e. omega (arith, words-taken (rulesOf c) (suc j) u _ refl .1)) in
       subst (λ (v : Stay). Goes u x v (bytesAfter (rulesOf c) row (suc (suc j)) u x)) (after-more (rulesOf c) row answers u (suc j))
       (subst (Goes u x (afterWords (rulesOf c) 1 (afterWords (rulesOf c) (suc j) u))) (bytes-more (rulesOf c) row answers u (suc j) x)
       (stays-on (planBy list s) c row before one))
@@ -413,9 +383,9 @@ module _ (list table : List ℕ) (s : Sizes) (room : ℕ) (g : Grounds list tabl
   words-end u x e onward al zero w all = last-once u onward al (omega (arith, w .answered)) x w (sym all) e
   words-end u x e onward al (suc j) w all =
       let before = words-go u x onward al j (words-before (rulesOf c) row answers u j w) (omega arith) in
-      let taken = after-taken (rulesOf c) u (suc j) in
+      let taken = words-taken (rulesOf c) (suc j) u _ refl .0 in
       let one = last-once (afterWords (rulesOf c) (suc j) u) (omega (arith, taken)) (before .alive) (omega (arith, taken, w .answered))
-      (bytesAfter (rulesOf c) row (suc j) u x) (words-behind (rulesOf c) row answers u (suc j) w) (omega (arith, after-left (rulesOf c) u (suc j)))
+      (bytesAfter (rulesOf c) row (suc j) u x) (words-behind (rulesOf c) row answers u (suc j) w) (omega (arith, words-taken (rulesOf c) (suc j) u _ refl .1))
       (bytes-length (rulesOf c) row (suc j) u x ∙ e) in
       subst (λ (v : Stay). Gone u x v (bytesAfter (rulesOf c) row (suc (suc j)) u x)) (after-more (rulesOf c) row answers u (suc j))
       (subst (Gone u x (afterWords (rulesOf c) 1 (afterWords (rulesOf c) (suc j) u))) (bytes-more (rulesOf c) row answers u (suc j) x)
@@ -445,17 +415,17 @@ module _ (list table : List ℕ) (s : Sizes) (room : ℕ) (g : Grounds list tabl
       let before = ih .waits (omega arith) in
       let ahead : from ≤ t .taken = omega (arith, ih .onward) in
       record {
-        onward = omega (arith, ih .onward, after-taken (rulesOf c) t (suc j));
+        onward = omega (arith, ih .onward, words-taken (rulesOf c) (suc j) t _ refl .0);
         kept = bytes-length (rulesOf c) row (suc j) t z ∙ ih .kept;
         waits = λ h. stays-on (planBy list s) c row before
-            (words-go t z ahead (before .alive) j w (omega (arith, after-left (rulesOf c) t (suc j))));
+            (words-go t z ahead (before .alive) j w (omega (arith, words-taken (rulesOf c) (suc j) t _ refl .1)));
         passes = λ h. gone-after u t _ x z _ before (ih .onward)
-            (words-end t z (ih .kept ∙ e) ahead (before .alive) j w (omega (arith, after-left (rulesOf c) t (suc j))));
+            (words-end t z (ih .kept ∙ e) ahead (before .alive) j w (omega (arith, words-taken (rulesOf c) (suc j) t _ refl .1)));
       }
   leads {u = u} {x = x} e onward al least inside (wait {t = t} {x = z} p w) =
       let ih = leads e onward al least inside p in
       let before = ih .waits (w .some) in
-      let taken = wait-taken (rulesOf c) t in
+      let taken = wait-taken (rulesOf c) t _ refl in
       record {
         onward = omega (arith, ih .onward, taken .0);
         kept = ih .kept;

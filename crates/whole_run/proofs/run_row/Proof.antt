@@ -2,13 +2,32 @@
 use mathlib.Core.Path.{refl, subst}
 use native.Mathlib.Omega.{arith}
 use borrow.Author.Needs.{needs}
+use lib.ListN.{length}
 use Rattle.step.proofs.PlanLaws.{going-start}
 use Rattle.step.proofs.StepLaws.{prepared-ready}
-use Rattle.whole_run.specs.model.Words.{ReadAs}
+use Rattle.step.specs.model.Onward.{PreparedFor}
+use Rattle.whole_run.specs.model.Words.{Answered, ReadAs}
 use Rattle.whole_run.proofs.WholeRun.{whole-refused, grounds, whole-unformed, start-stage, whole-run}
 use Rattle.whole_run.proofs.Turns.{grounds-at}
 use Rattle.whole_run.proofs.run_row.Statement.{statement}
 use Rattle.whole_run.proofs.run_row.Tie as tie
+
+-- the list is ready
+module _ (a : tie.After-prepared) where
+  abbrev at-prepare : tie.After-prepare
+  at-prepare = a .before .before .before
+
+  abbrev start : tie.Start
+  start = at-prepare .before .before .before .before .before .before
+
+  ready : PreparedFor (start .args .list .now) (at-prepare .prepare .last .1 .0) (a .prepared .given .0 .0 .sizes) (a .prepared .given .0 .0 .counts)
+      (length (start .args .incoming .now)) (length (start .args .outgoing .now))
+  ready = prepared-ready _ _ _ _ (at-prepare .prepare .ensures .0) _ (at-prepare .prepare .ensures .1) _ (a .prepared .given .1)
+      (λ i. omega (arith, at-prepare .before .before .before .before .before .shared-slice-known .given i)) (at-prepare .prepare .kept .1 .0)
+
+-- and the row is formed
+answered : (a : tie.After-read) → Answered (start (a .before .before .before .before) .args .row .now) (a .read .given .0 .0)
+answered a = subst (ReadAs (start (a .before .before .before .before) .args .row .now)) (a .read .given .1) (a .before .before .read-row .ensures)
 
 slice-aggregate-prepare : tie.Need-slice-aggregate-prepare
 slice-aggregate-prepare c = search needs
@@ -50,15 +69,9 @@ refused-run-requires-2 c κs = search needs
 
 returns-2 : tie.Need-returns-2
 returns-2 c =
-    let at-read-row = c .before .before .before in
-    let at-prepared = at-read-row .before .before in
-    let at-prepare = at-prepared .before .before .before in
-    let at-shared-slice-known = at-prepare .before .before .before .before .before in
-    let start = at-shared-slice-known .before in
-    let x = prepared-ready _ _ _ _ (at-prepare .prepare .ensures .0) _ (at-prepare .prepare .ensures .1) _ (at-prepared .prepared .given .1)
-    (λ i. omega (arith, at-shared-slice-known .shared-slice-known .given i)) (at-prepare .prepare .kept .1 .0) in
-    whole-unformed _ _ _ (start .args .row .now) _ _ _ x _
-    (subst (ReadAs (start .args .row .now)) (c .before .enum-told2 .given .1) (at-read-row .read-row .ensures)) (c .refused-run2 .ensures)
+    let a = c .before .before .before .before .before in
+    whole-unformed _ _ _ (start a .args .row .now) _ _ _ (ready a) _
+    (subst (ReadAs (start a .args .row .now)) (c .before .enum-told2 .given .1) (c .before .before .before .read-row .ensures)) (c .refused-run2 .ensures)
 
 slice-aggregate-run-on : tie.Need-slice-aggregate-run-on
 slice-aggregate-run-on c = search needs
@@ -71,12 +84,7 @@ zero-record-requires c κs = search needs
 
 run-on-requires : tie.Need-run-on-requires
 run-on-requires c κs =
-    let at-zero-record = c .before in
-    let at-prepared = at-zero-record .before .before .before .before .before .before .before .before .before in
-    let at-prepare = at-prepared .before .before .before in
-    let at-shared-slice-known = at-prepare .before .before .before .before .before in
-    let x = prepared-ready _ _ _ _ (at-prepare .prepare .ensures .0) _ (at-prepare .prepare .ensures .1) _ (at-prepared .prepared .given .1)
-    (λ i. omega (arith, at-shared-slice-known .shared-slice-known .given i)) (at-prepare .prepare .kept .1 .0) in (
+    let at-zero-record = c .before in let x = ready (at-zero-record .before .before .before .before .before .before .before .before .before) in (
       omega (arith, x .entries, x .planned .few),
       (
         x .planned .few,
@@ -88,30 +96,19 @@ run-on-requires c κs =
     )
 
 slice-aggregate-run-replies : tie.Need-slice-aggregate-run-replies
-slice-aggregate-run-replies c =
-    let at-run-on = c .before .before .before .before in
-    let at-prepare = at-run-on .before .before .before .before .before .before .before .before .before .before .before .before .before .before in
-    omega (arith, at-prepare .prepare .kept .1 .0)
+slice-aggregate-run-replies c = omega (arith, c .before .before .before .before .before .before .before .before .before .before .before .before .before .before .before .before .before .before .prepare .kept .1 .0)
 
 run-replies-requires : tie.Need-run-replies-requires
 run-replies-requires c κs =
-    let at-run-on = c .before .before .before .before .before in
-    let at-zero-record = at-run-on .before .before in
-    let at-read = at-zero-record .before .before .before .before .before in
-    let at-read-row = at-read .before .before in
-    let at-prepared = at-read-row .before .before in
-    let at-prepare = at-prepared .before .before .before in
-    let at-shared-slice-known = at-prepare .before .before .before .before .before in
-    let start = at-shared-slice-known .before in
-    let x = prepared-ready _ _ _ _ (at-prepare .prepare .ensures .0) _ (at-prepare .prepare .ensures .1) _ (at-prepared .prepared .given .1)
-    (λ i. omega (arith, at-shared-slice-known .shared-slice-known .given i)) (at-prepare .prepare .kept .1 .0) in (
+    let at-run-on = c .before .before .before .before .before in let at-zero-record = at-run-on .before .before in
+    let at-read = at-zero-record .before .before .before .before .before in let a = at-read .before .before .before .before in (
       grounds-at (at-run-on .run-on .kept .1 .1 .1 .1 .1 .0)
-          (grounds _ (start .args .incoming .now) (start .args .outgoing .now) (start .args .row .now) _ _ _ x),
+          (grounds _ (start a .args .incoming .now) (start a .args .outgoing .now) (start a .args .row .now) _ _ _ (ready a)),
       (
         start-stage _
-            (start .args .incoming .now) (start .args .outgoing .now) (start .args .row .now) _ _ _ x _ _ _ (at-zero-record .zero-record .ensures)
+            (start a .args .incoming .now) (start a .args .outgoing .now) (start a .args .row .now) _ _ _ (ready a) _ _ _ (at-zero-record .zero-record .ensures)
             (λ out. rw (at-zero-record .before .first-spot .ensures) at (at-run-on .run-on .ensures .0 out)),
-        subst (ReadAs (start .args .row .now)) (at-read .read .given .1) (at-read-row .read-row .ensures),
+        answered at-read,
       ),
     )
 
@@ -120,20 +117,12 @@ same-length c = search needs
 
 returns-3 : tie.Need-returns-3
 returns-3 c =
-    let at-run-replies = c .before .before .before in
-    let at-run-on = at-run-replies .before .before .before .before .before .before in
+    let at-run-replies = c .before .before .before in let at-run-on = at-run-replies .before .before .before .before .before .before in
     let at-zero-record = at-run-on .before .before in
-    let at-read = at-zero-record .before .before .before .before .before in
-    let at-read-row = at-read .before .before in
-    let at-prepared = at-read-row .before .before in
-    let at-prepare = at-prepared .before .before .before in
-    let at-shared-slice-known = at-prepare .before .before .before .before .before in
-    let start = at-shared-slice-known .before in
-    let x = prepared-ready _ _ _ _ (at-prepare .prepare .ensures .0) _ (at-prepare .prepare .ensures .1) _ (at-prepared .prepared .given .1)
-    (λ i. omega (arith, at-shared-slice-known .shared-slice-known .given i)) (at-prepare .prepare .kept .1 .0) in
-    whole-run _ _ _ (start .args .row .now) _ _ _ x _ _ _ (at-zero-record .zero-record .ensures)
-    (λ out. rw (at-zero-record .before .first-spot .ensures) at (at-run-on .run-on .ensures .0 out))
-    (subst (ReadAs (start .args .row .now)) (at-read .read .given .1) (at-read-row .read-row .ensures) .formed) _ _ _ (at-run-replies .run-replies .ensures)
+    let at-read = at-zero-record .before .before .before .before .before in let a = at-read .before .before .before .before in
+    whole-run _ _ _ (start a .args .row .now) _ _ _ (ready a) _ _ _ (at-zero-record .zero-record .ensures)
+    (λ out. rw (at-zero-record .before .first-spot .ensures) at (at-run-on .run-on .ensures .0 out)) (answered at-read .formed) _ _ _
+    (at-run-replies .run-replies .ensures)
 
 pub run-row-spec : {M : Type 1} → statement M
 run-row-spec =

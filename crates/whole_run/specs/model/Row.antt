@@ -1,25 +1,15 @@
 -- The whole run over a row of replies, as code makes it. Nothing here is a rule of document 01: the law StepsAreTakes joins `takesOver` to the
 -- definition of the whole run, and CleanRow joins a stretch of clean answers to `takesOver`.
-use Prim.Native.Nat.{ℕ, zero, suc, _+_, _-_, _*_, _/_, _%_, _≤_, _<_}
+use Prim.Native.Nat.{ℕ, _+_, _/_, _≤_}
 use mathlib.Core.Path.{_≡_}
 use mathlib.Core.Logic.{_⊎_}
-use mathlib.Core.Bool.{Bool, true, false}
+use mathlib.Core.Bool.{true}
 use mathlib.Core.List.{List, [], _∷_}
 use mathlib.Core.Option.{Option, none, some}
-use lib.ListN.{length, getD, drop}
+use lib.ListN.{length, drop}
 use Rattle.base.specs.Checks.{if_then_else_}
-use Rattle.camac.specs.Words.{qmodeOf, directionOf}
-use Rattle.camac.specs.declared.modes.QMode.{QMode}
-use Rattle.camac.specs.declared.modes.QMode.the-variants.{Stop, Ignore, Repeat, Scan}
 use Rattle.camac.specs.declared.words.Command.{Command}
-use Rattle.camac.specs.declared.words.Direction.{Direction}
-use Rattle.camac.specs.declared.words.Direction.the-variants.{Incoming, Outgoing, Neither}
-use Rattle.packing.specs.Packing.{widthOf, markAfterWords, stored}
-use Rattle.packing.specs.declared.Marks.{Marks}
-use Rattle.listfile.specs.model.Table.{instructionAt}
 use Rattle.listfile.specs.declared.check.Sizes.{Sizes}
-use Rattle.listfile.specs.declared.field.Instruction.{Instruction}
-use Rattle.walk.specs.Walk.{movedWords}
 use Rattle.walk.specs.Admission.{Plan}
 use Rattle.walk.specs.declared.worst.Counts.{Counts}
 use Rattle.reply.specs.Replies.{replyOf, repliesIn, allFormed}
@@ -27,7 +17,6 @@ use Rattle.reply.specs.Effect.{State, stateOf}
 use Rattle.calls.specs.Fit.{fits}
 use Rattle.calls.specs.Calls.{notRefused, takeAt, RunThrough}
 use Rattle.reply.specs.declared.replies.Reply.{Reply}
-use Rattle.reply.specs.declared.records.Note.{Note}
 use Rattle.reply.specs.declared.records.Record.{Record}
 use Rattle.step.specs.model.Onward.{PreparedFor}
 use Rattle.step.specs.model.Place.{Alive}

@@ -1,7 +1,7 @@
 -- `last_word` stores the word of a read; a write and a control store nothing.
-use Rattle.whole_run.proofs.VisitRoom.{read-one, words-left, bytes-one, bytes-written, bytes-controlled}
-use mathlib.Core.Path.{refl, sym, _∙_}
+use Rattle.whole_run.proofs.VisitRoom.{read-one, words-left, bytes-one, bytes-by}
 use native.Mathlib.Omega.{arith}
+use mathlib.Core.Path.{refl}
 use borrow.Author.Needs.{needs}
 use Rattle.whole_run.proofs.visit.last_word.Statement.{statement}
 use Rattle.whole_run.proofs.visit.last_word.Tie as tie
@@ -28,10 +28,10 @@ returns : tie.Need-returns
 returns c = bytes-one _ _ _ _ _ (c .before .before .before .before .enum-told .given .1) (c .before .before .read-word .ensures)
 
 returns-2 : tie.Need-returns-2
-returns-2 c = bytes-written _ _ _ _ 1 (c .enum-told2 .given .1)
+returns-2 c = bytes-by _ _ _ _ 1 _ _ (c .enum-told2 .given .1) refl
 
 returns-3 : tie.Need-returns-3
-returns-3 c = bytes-controlled _ _ _ _ 1 (c .enum-told3 .given .1)
+returns-3 c = bytes-by _ _ _ _ 1 _ _ (c .enum-told3 .given .1) refl
 
 pub last-word-spec : {M : Type 1} → statement M
 last-word-spec =

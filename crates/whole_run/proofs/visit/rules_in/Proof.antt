@@ -24,9 +24,9 @@ returns : tie.Need-returns
 unfolding rulesOf
 returns c = λ second.
     rw (
-      command-qmode (c .before .before .before .before .before .args .first) second,
-      command-wide (c .before .before .before .before .before .args .first) second,
-      command-ad (c .before .before .before .before .before .args .first) second,
+      command-qmode,
+      command-wide,
+      command-ad,
       c .word-flags .ensures,
       c .before .is-wide .ensures,
       c .before .before .direction-in .ensures second,

@@ -4,7 +4,7 @@ use Prim.Native.Nat.{_-_}
 use mathlib.Core.Path.{_≡_, refl, sym, _∙_}
 use native.Mathlib.Omega.{arith}
 use borrow.Author.Needs.{needs}
-use borrow.Author.Tests.{not-true, not-false}
+use borrow.Author.Tests.{not-false}
 use lib.ListN.{length}
 use Rattle.whole_run.specs.model.Visit.{Passed, none, Roomy}
 use Rattle.whole_run.proofs.VisitRoom.{small-incoming, small-outgoing, words-left, one-word, words-turn, wait-turn, words-taken, wait-taken}
@@ -72,7 +72,7 @@ after-words-requires c κs =
 loop-less : tie.Need-loop-less Inv-loop μ-loop
 loop-less c =
     let w = c .before .before .before .words-from .ensures .0 in
-    omega (arith, w .some, w .answered, words-taken _ _ _ _ (c .after-words .ensures))
+    omega (arith, w .some, w .answered, words-taken _ _ _ _ (c .after-words .ensures) .0)
 
 loop-again : tie.Need-loop-again Inv-loop μ-loop
 loop-again c =
@@ -98,7 +98,7 @@ after-wait-requires c κs =
     let m = c .before .before .before .before .before .before .before .before .loop .inv .1 .0 in (m .tries, (omega (arith, m .taken), m .position))
 
 loop-less-2 : tie.Need-loop-less-2 Inv-loop μ-loop
-loop-less-2 c = omega (arith, c .before .before .before .before .before .if2 .left, wait-taken _ _ _ (c .after-wait .ensures))
+loop-less-2 c = omega (arith, c .before .before .before .before .before .if2 .left, wait-taken _ _ _ (c .after-wait .ensures) .0)
 
 loop-again-2 : tie.Need-loop-again-2 Inv-loop μ-loop
 loop-again-2 c =

@@ -1,7 +1,8 @@
 -- `words_from` counts the words of an instruction, and stores those that are read.
 use Rattle.whole_run.proofs.WordLaws.{first-word}
-use Rattle.whole_run.proofs.VisitRoom.{ahead-most, read-in, bytes-read, bytes-written, bytes-controlled}
+use Rattle.whole_run.proofs.VisitRoom.{ahead-most, read-in, bytes-by}
 use native.Mathlib.Omega.{arith}
+use mathlib.Core.Path.{refl}
 use borrow.Author.Needs.{needs}
 use Rattle.whole_run.proofs.visit.words_from.Statement.{statement}
 use Rattle.whole_run.proofs.visit.words_from.Tie as tie
@@ -39,7 +40,7 @@ returns : tie.Need-returns
 returns c = let p = c .before .before .before .before .before .before .before .before .before .pre in
     let k = c .before .before .read-words .ensures in (
       record { some = k .0; ahead = omega (arith, k .1 .0, p .2 .1 .0); answered = omega (arith, k .1 .0, p .2 .1 .1); are = k .1 .1 .0 },
-      bytes-read _ _ _ _ _ _ (c .before .before .before .before .enum-told .given .1) (k .1 .1 .1),
+      bytes-by _ _ _ _ _ _ _ (c .before .before .before .before .enum-told .given .1) (k .1 .1 .1),
     )
 
 returns-2 : tie.Need-returns-2
@@ -53,7 +54,7 @@ returns-2 c =
         answered = omega (arith, k .0, p .2 .1 .1);
         are = k .1 .0;
       },
-      bytes-written _ _ _ _ _ (c .before .enum-told2 .given .1),
+      bytes-by _ _ _ _ _ _ _ (c .before .enum-told2 .given .1) refl,
     )
 
 returns-3 : tie.Need-returns-3
@@ -67,7 +68,7 @@ returns-3 c =
         answered = omega (arith, k .0, p .2 .1 .1);
         are = k .1 .0;
       },
-      bytes-controlled _ _ _ _ _ (c .before .enum-told3 .given .1),
+      bytes-by _ _ _ _ _ _ _ (c .before .enum-told3 .given .1) refl,
     )
 
 pub words-from-spec : {M : Type 1} → statement M
