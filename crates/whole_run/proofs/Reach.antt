@@ -1,5 +1,5 @@
 -- The run along jumps and literals with marks beside a spot: each visit is one of `runOn` for every record that has those marks, and the
--- rest of the walk grows shorter.
+-- rest of the walk grows shorter. The first byte of a field that passed its checks tells its kind.
 use Prim.Native.Nat.{ℕ, _+_, _≤_, _<_}
 use mathlib.Core.Path.{_≡_, refl, sym, ap, _∙_, subst}
 use mathlib.Core.Logic.{_⊎_, inl, inr, ⊎-elim}

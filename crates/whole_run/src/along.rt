@@ -20,6 +20,7 @@ ghost use Rattle.whole_run.specs.model.Words.{Answered};
 ghost use Rattle.whole_run.specs.model.Visit.{placeOf};
 ghost use Rattle.whole_run.specs.model.Along.{Ahead, Tabled, Reaches, arrived, between, stayOf, stopRecord};
 
+// Tags of an admitted list: a CAMAC instruction's is below these, and one that is neither is a literal's.
 const JUMP: u8 = 0x20;
 
 const HALT: u8 = 0x2F;
