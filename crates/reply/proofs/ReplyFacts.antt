@@ -2,12 +2,12 @@
 -- kind. The bytes of a piece of a row are those of the row from its place on.
 use Prim.Native.Nat.{ℕ, zero, suc, _+_, _*_, _/_, _%_, _<_}
 use mathlib.Core.Path.{_≡_, refl, sym, ap, _∙_}
-use mathlib.Core.Bool.{true, false, _&&_, and-false}
+use mathlib.Core.Bool.{true, false, _&&_}
 use mathlib.Core.List.{List}
 use mathlib.Core.Option.{Option, none, some}
 use native.Mathlib.Omega.{arith}
 use native.Mathlib.Nat.{div-one}
-use borrow.Author.Tests.{ne-eqb, lt-leb, eqb-true}
+use borrow.Author.Tests.{lt-leb, eqb-true}
 use lib.Dec.{leb, eqb}
 use lib.ListN.{length, take, drop, getD}
 use lib.Seq.{getD-take, getD-drop}
@@ -67,14 +67,6 @@ module _ (bytes : List ℕ) (formed : isFormed bytes ≡ true) where
   pub formed-length : length bytes ≡ 8
   unfolding hasForm
   formed-length = eqb-true _ _ (and-left (eqb (length bytes) 8) _ formed-has-form)
-
-  -- formed bytes with flags are an answer: the other kinds have every other byte zero
-  pub formed-answer : ¬ (byteAt bytes 1 ≡ 0) → byteAt bytes 0 ≡ 0
-  unfolding hasForm
-  formed-answer flagged =
-      on (eqb (byteAt bytes 0) 0)
-      (λ e. eqb-true _ 0 e)
-      (λ e. absurd (true-not-false (sym (simp (e, ne-eqb (byteAt bytes 1) 0 flagged, and-false) at formed-has-form))))
 
 pub unformed : (bytes : List ℕ) → (isFormed bytes ≡ true → ⊥) → false ≡ isFormed bytes
 unformed bytes h = on (isFormed bytes) (λ e. absurd (h e)) (λ e. sym e)

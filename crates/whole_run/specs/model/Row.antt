@@ -1,5 +1,5 @@
 -- The whole run over a row of replies, as code makes it. Nothing here is a rule of document 01: the law StepsAreTakes joins `takesOver` to the
--- definition of the whole run, and CleanRow joins a stretch of clean answers to `takesOver`.
+-- definition of the whole run, and VisitTurn joins words and waits to it.
 use Prim.Native.Nat.{ℕ, _+_, _/_, _≤_}
 use mathlib.Core.Path.{_≡_}
 use mathlib.Core.Logic.{_⊎_}
