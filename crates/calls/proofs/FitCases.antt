@@ -7,15 +7,15 @@ use lib.Bits.{bitAnd}
 use lib.Dec.{leb, eqb}
 use Rattle.base.proofs.Bools.{and-left, and-right}
 use Rattle.camac.specs.Words.{qmodeOf, wordsOf, positionOf, directionOf}
-use Rattle.camac.specs.declared.modes.QMode.{QMode}
+use Rattle.qmodes.specs.declared.modes.QMode.{QMode}
 use Rattle.camac.specs.declared.words.Command.{Command}
 use Rattle.camac.specs.declared.words.Direction.{Direction}
 use Rattle.camac.specs.declared.words.Direction.the-variants.{Incoming, Outgoing, Neither}
-use Rattle.camac.specs.declared.scan.ScanPosition.{ScanPosition}
+use Rattle.qmodes.specs.declared.scan.ScanPosition.{ScanPosition}
 use Rattle.packing.specs.Packing.{markAfterWords}
 use Rattle.packing.specs.declared.Marks.{Marks}
 use Rattle.walk.specs.Walk.{moved, movedWords}
-use Rattle.camac.specs.Modes.{mostLeft, triesFit, positionFits}
+use Rattle.qmodes.specs.Modes.{mostLeft, triesFit, positionFits}
 use Rattle.reply.specs.Status.{waitingBits}
 use Rattle.calls.specs.Fit.{marksFit, noteFits, fitsAt}
 use Rattle.calls.specs.model.Bounds.{fitsCommand, fitsWalk}

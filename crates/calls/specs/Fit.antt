@@ -15,7 +15,7 @@ use Rattle.walk.specs.Admission.{Plan}
 use Rattle.reply.specs.Status.{waitingBits}
 use Rattle.reply.specs.declared.records.Note.{Note}
 use Rattle.reply.specs.declared.records.Record.{Record}
-use Rattle.camac.specs.Modes.{triesFit, positionFits, mostLeft}
+use Rattle.qmodes.specs.Modes.{triesFit, positionFits, mostLeft}
 
 -- "both marks are those of the walk with the moved words"
 unfoldable pub marksFit : Command → Marks → Record → Bool

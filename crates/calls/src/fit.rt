@@ -86,8 +86,8 @@ fn fits_command(limit: usize, c: Command, r: Record) -> bool
     !r.ended
         & (1 <= left)
         & (left <= camac::words_of(t))
-        & camac::tries_fit(limit, q, r.tries)
-        & camac::position_fits(q, camac::position_of(t), p)
+        & qmodes::tries_fit(limit, q, r.tries)
+        & qmodes::position_fits(q, camac::position_of(t), p)
         & (r.status & reply::WAITING_BITS == r.status)
         & note_fits(note, marks)
 }
@@ -100,7 +100,7 @@ fn fits_walk(limit: usize, worst: u64, c: Command, m: Marks, rest: u64, r: Recor
     let t = c.transfer;
     let q = camac::qmode_of(t);
     let p = r.position;
-    let most = camac::most_left(limit, q, p, r.left, r.tries, rest);
+    let most = qmodes::most_left(limit, q, p, r.left, r.tries, rest);
     marks_fit(c, m, r) & is_within(r.operations as usize, most as usize, worst as usize)
 }
 

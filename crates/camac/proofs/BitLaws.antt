@@ -12,7 +12,7 @@ use Rattle.base.proofs.Bools.{and-right, or-false-left, or-false-right}
 use Rattle.base.proofs.Checks.{passed}
 use Rattle.camac.specs.Words.{modeIn, qmodeIn, addressIn, wideIn, adIn, isControl, isWrite, blockWords, transferIn, commandIn, qmodeOf, addressOf, wordsOf, directionBy, directionOf, isScanIn, zeroBitSet, badAddress, badMode, badSecond, aboveP, camacFault}
 use Rattle.camac.specs.model.Bits.{isIncoming, isOutgoing, Passes}
-use Rattle.camac.specs.declared.modes.QMode.{QMode}
+use Rattle.qmodes.specs.declared.modes.QMode.{QMode}
 use Rattle.camac.specs.declared.words.Address.{Address}
 use Rattle.camac.specs.declared.words.Direction.{Direction}
 use Rattle.camac.specs.declared.words.Direction.the-variants.{Incoming, Outgoing, Neither}

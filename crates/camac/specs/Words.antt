@@ -5,17 +5,17 @@ use mathlib.Core.Bool.{Bool, _&&_, _||_, not}
 use mathlib.Core.List.{[], _∷_}
 use lib.Dec.{leb, ltb, eqb}
 use Rattle.base.specs.Checks.{if_then_else_, _gives_, firstOf, bit, bits}
-use Rattle.camac.specs.Scan.{positions}
-use Rattle.camac.specs.Modes.{isScan}
-use Rattle.camac.specs.declared.modes.QMode.{QMode}
-use Rattle.camac.specs.declared.modes.QMode.the-variants.{Stop, Ignore, Repeat, Scan}
+use Rattle.qmodes.specs.Scan.{positions}
+use Rattle.qmodes.specs.Modes.{isScan}
+use Rattle.qmodes.specs.declared.modes.QMode.{QMode}
+use Rattle.qmodes.specs.declared.modes.QMode.the-variants.{Stop, Ignore, Repeat, Scan}
 use Rattle.camac.specs.declared.words.Address.{Address}
 use Rattle.camac.specs.declared.words.Transfer.{Transfer}
 use Rattle.camac.specs.declared.words.Transfer.the-variants.{Single, Block, Inline}
 use Rattle.camac.specs.declared.words.Command.{Command}
 use Rattle.camac.specs.declared.words.Direction.{Direction}
 use Rattle.camac.specs.declared.words.Direction.the-variants.{Incoming, Outgoing, Neither}
-use Rattle.camac.specs.declared.scan.ScanPosition.{ScanPosition}
+use Rattle.qmodes.specs.declared.scan.ScanPosition.{ScanPosition}
 use Rattle.camac.specs.declared.words.Decoded.{Decoded}
 use Rattle.camac.specs.declared.words.Decoded.the-variants.{Carried, Refused}
 

@@ -1,8 +1,8 @@
 // What a few bits of the longwords say, for code that reads an admitted list in place: each the value that the decode gives
 // (proofs/BitLaws). A transfer mode more shows in `is_block`, `reads`, `writes` and `words_in`.
-use crate::scan::ScanPosition;
 use crate::words::address_in;
 use crate::words::block_words;
+use qmodes::ScanPosition;
 ghost use mathlib.Core.Path.{_≡_};
 ghost use Prim.Native.Nat.{ℕ, _+_, _*_, _<_};
 ghost use lib.Dec.{eqb};

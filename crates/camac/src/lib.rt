@@ -1,8 +1,6 @@
-// CAMAC words: the decode of an instruction's longwords, what a few of their bits say, what each Q-mode does, scan positions, the names of the error codes.
+// CAMAC words: the decode of an instruction's longwords, what a few of their bits say, the names of the error codes.
 pub mod bits;
-pub mod modes;
 pub mod names;
-pub mod scan;
 pub mod words;
 
 pub use bits::has_ad;
@@ -14,29 +12,7 @@ pub use bits::reads;
 pub use bits::start_in;
 pub use bits::words_in;
 pub use bits::writes;
-pub use modes::Answer;
-pub use modes::QMode;
-pub use modes::can_wait;
-pub use modes::has_no_q;
-pub use modes::has_no_x;
-pub use modes::is_done;
-pub use modes::is_leaving;
-pub use modes::is_spent;
-pub use modes::most_left;
-pub use modes::place_after_wait;
-pub use modes::place_after_words;
-pub use modes::position_after;
-pub use modes::position_fits;
-pub use modes::scan_leaves;
-pub use modes::tries_after;
-pub use modes::tries_fit;
-pub use modes::wait_flags;
-pub use modes::word_flags;
-pub use modes::words_ahead;
-pub use modes::worst_words;
 pub use names::error_name;
-pub use scan::Moved;
-pub use scan::ScanPosition;
 pub use words::Address;
 pub use words::Command;
 pub use words::Decoded;

@@ -2,9 +2,9 @@
 use crate::bits::has_ad;
 use crate::bits::is_wide;
 use crate::bits::mode_in;
-use crate::modes::QMode;
-use crate::modes::is_scan;
-use crate::scan::ScanPosition;
+use qmodes::QMode;
+use qmodes::ScanPosition;
+use qmodes::is_scan;
 ghost use mathlib.Core.Path.{_≡_};
 ghost use Rattle.camac.specs.Words.{qmodeIn, addressIn, isControl, isWrite, halfwords, blockWords, transferIn, commandIn, qmodeOf, addressOf, wordsOf, directionBy, directionOf, positionOf, zeroBitSet, badAddress, badMode, badCount, aboveWord, badSecond, aboveP, camacFault, decodeOf};
 ghost use lib.ListN.{length};

@@ -4,9 +4,9 @@ use base::Refusal;
 use calls::Operation;
 use calls::Yield;
 use reply::Record;
+use row::RowRead;
 use walk::Admission;
 use walk::Counts;
-use whole_run::RowRead;
 ghost use Rattle.io.specs.Counts.{Counts as CountsBytes};
 ghost use Rattle.calls.specs.Calls.{stepOf, Yields};
 ghost use Rattle.reply.specs.Effect.{stateOf};
@@ -52,7 +52,7 @@ fn run_list(list: &[u8], replies: &[u8], outgoing: &[u8]) {
         }
         Admission::Admitted(counts) => {
             print_admitted(counts);
-            let read = whole_run::read_row(replies);
+            let read = row::read_row(replies);
             let RowRead::Answers(_) = read else {
                 print_refused(Refusal {
                     number: NOT_FORMED,

@@ -2,8 +2,8 @@
 use base::Refusal;
 use calls::Operation;
 use calls::Ran;
-use camac::ScanPosition;
 use packing::Marks;
+use qmodes::ScanPosition;
 use reply::Note;
 use reply::Record;
 use walk::Admission;

@@ -12,10 +12,10 @@ use lib.Dec.{leb, ltb, eqb}
 use lib.ListN.{length}
 use Rattle.base.specs.Checks.{if_then_else_, _gives_}
 use Rattle.camac.specs.Words.{modeIn, qmodeIn, addressIn, wideIn, halfwords, blockWords, transferIn, commandIn, addressOf, wordsOf, isScanIn, zeroBitSet, badAddress, badMode, badCount, aboveWord, badSecond, aboveP, camacFault, decodedBy, decodeOf}
-use Rattle.camac.specs.Modes.{isScan}
+use Rattle.qmodes.specs.Modes.{isScan}
 use Rattle.camac.proofs.BitLaws.{command-qmode, command-address}
-use Rattle.camac.specs.declared.modes.QMode.{QMode}
-use Rattle.camac.specs.declared.modes.QMode.the-variants.{Scan}
+use Rattle.qmodes.specs.declared.modes.QMode.{QMode}
+use Rattle.qmodes.specs.declared.modes.QMode.the-variants.{Scan}
 use Rattle.camac.specs.declared.words.Address.{Address}
 use Rattle.camac.specs.declared.words.Transfer.{Transfer}
 use Rattle.camac.specs.declared.words.Command.{Command}

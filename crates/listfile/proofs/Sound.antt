@@ -2,9 +2,9 @@
 use Prim.Native.Nat.{_≤_}
 use mathlib.Core.Path.{_≡_}
 use mathlib.Core.List.{List, [], _∷_}
-use Rattle.camac.specs.Scan.{positions}
+use Rattle.qmodes.specs.Scan.{positions}
 use Rattle.camac.specs.Words.{qmodeOf, addressOf, wordsOf, positionOf}
-use Rattle.camac.specs.declared.modes.QMode.the-variants.{Scan}
+use Rattle.qmodes.specs.declared.modes.QMode.the-variants.{Scan}
 use Rattle.camac.specs.declared.words.Transfer.{Transfer}
 use Rattle.camac.specs.declared.words.Command.{Command}
 use Rattle.listfile.specs.Fields.{Field}

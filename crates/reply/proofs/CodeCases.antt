@@ -2,7 +2,7 @@
 -- beside it, so that 9 as the greatest code is 9 as the only cause.
 use Prim.Native.Nat.{ℕ, _≤_, _<_, max}
 use mathlib.Core.Path.{_≡_, refl, sym, _∙_}
-use mathlib.Core.Bool.{Bool, true, false, and-true, and-false}
+use mathlib.Core.Bool.{Bool, true, false}
 use borrow.Author.Tests.{ne-eqb}
 use mathlib.Core.List.{List, [], _∷_}
 use native.Mathlib.Omega.{arith}
@@ -11,17 +11,16 @@ use lib.Dec.{eqb}
 use Rattle.base.specs.Checks.{if_then_else_, Check, _gives_}
 use Rattle.base.proofs.Checks.{Numbered}
 use Rattle.camac.specs.Words.{qmodeOf}
-use Rattle.camac.specs.declared.modes.QMode.{QMode}
-use Rattle.camac.specs.declared.modes.QMode.the-variants.{Stop, Ignore, Repeat, Scan}
+use Rattle.qmodes.specs.declared.modes.QMode.{QMode}
+use Rattle.qmodes.specs.declared.modes.QMode.the-variants.{Stop, Ignore, Repeat, Scan}
 use Rattle.camac.specs.declared.words.Command.{Command}
-use Rattle.camac.specs.declared.scan.ScanPosition.{ScanPosition}
-use Rattle.camac.specs.Modes.{spent, scanLeaves, noX, noQInStop}
-use Rattle.reply.specs.Causes.{doneBy, parityError, causeChecks, allThatHold, causesOf, greatest, codeOf, onlyNine}
-use Rattle.camac.specs.declared.modes.Answer.{Answer}
+use Rattle.qmodes.specs.declared.scan.ScanPosition.{ScanPosition}
+use Rattle.qmodes.specs.Modes.{spent, scanLeaves, noX, noQInStop}
+use Rattle.reply.specs.Causes.{parityError, causeChecks, allThatHold, causesOf, greatest, codeOf, onlyNine}
+use Rattle.qmodes.specs.declared.modes.Answer.{Answer}
 use Rattle.reply.specs.declared.replies.Reply.{Reply}
 use Rattle.reply.specs.declared.replies.Reply.the-variants.{Answered, Timeout, NotRecognised, NoSync}
 use Rattle.reply.specs.declared.records.Record.{Record}
-use Rattle.reply.specs.model.Here.{movesAtEnd}
 use Rattle.base.proofs.Tests.{true-not-false}
 
 -- The greatest code ------------------------------------------------------------------------------------------------------
@@ -149,7 +148,7 @@ leaving-no-q Repeat a p left h = refl
 leaving-no-q Scan a p left h = refl
 
 -- "with 9 as the only cause" is 9 as the greatest code
-only-nine :
+pub only-nine :
     (limit : ℕ) (c : Command) (r : Record) (reply : Reply)
     → onlyNine (causesOf limit c r reply) ≡ eqb (codeOf limit c r reply) 9
 unfolding codeOf causesOf causeChecks
@@ -165,14 +164,3 @@ only-nine limit c r (Answered a) =
     (noQInStop (qmodeOf (c .transfer)) a)
     (leaving-no-x (qmodeOf (c .transfer)) (c .ad) a (r .position) (r .left))
     (leaving-no-q (qmodeOf (c .transfer)) a (r .position) (r .left))
-
--- The word of a reply that ends the run ----------------------------------------------------------------------------------
-
-module _ (limit : ℕ) (c : Command) (reply : Reply) (r : Record) (code : ℕ) (e : code ≡ codeOf limit c r reply) where
-  pub moves-nine : code ≡ 9 → doneBy (qmodeOf (c .transfer)) reply ≡ movesAtEnd limit c reply r
-  unfolding movesAtEnd
-  moves-nine h = rw (only-nine limit c r reply, ← e, h) (sym (and-true (doneBy (qmodeOf (c .transfer)) reply)))
-
-  pub moves-none : ¬ (code ≡ 9) → false ≡ movesAtEnd limit c reply r
-  unfolding movesAtEnd
-  moves-none h = rw (only-nine limit c r reply, ← e, ne-eqb code 9 h) (sym (and-false (doneBy (qmodeOf (c .transfer)) reply)))

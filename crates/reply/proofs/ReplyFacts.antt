@@ -13,7 +13,7 @@ use lib.ListN.{length, take, drop, getD}
 use lib.Seq.{getD-take, getD-drop}
 use Rattle.base.specs.Bytes.{byteAt}
 use Rattle.reply.specs.Replies.{answerIn, ofKind, hasForm, replyOf, isSome, isFormed}
-use Rattle.camac.specs.declared.modes.Answer.{Answer}
+use Rattle.qmodes.specs.declared.modes.Answer.{Answer}
 use Rattle.reply.specs.declared.replies.Reply.{Reply}
 use Rattle.reply.specs.declared.replies.Reply.the-variants.{Answered, Timeout, NotRecognised, NoSync}
 use Rattle.base.proofs.Tests.{on, true-not-false}

@@ -5,13 +5,13 @@ use mathlib.Core.List.{List, [], _∷_}
 use lib.Dec.{eqb}
 use Rattle.base.specs.Checks.{if_then_else_, Check, _gives_}
 use Rattle.camac.specs.Words.{qmodeOf}
-use Rattle.camac.specs.declared.modes.QMode.{QMode}
+use Rattle.qmodes.specs.declared.modes.QMode.{QMode}
 use Rattle.camac.specs.declared.words.Command.{Command}
-use Rattle.camac.specs.declared.modes.Answer.{Answer}
+use Rattle.qmodes.specs.declared.modes.Answer.{Answer}
 use Rattle.reply.specs.declared.replies.Reply.{Reply}
 use Rattle.reply.specs.declared.replies.Reply.the-variants.{Answered, Timeout, NotRecognised, NoSync}
 use Rattle.reply.specs.declared.records.Record.{Record}
-use Rattle.camac.specs.Modes.{done, spent, scanLeaves, noX, noQInStop}
+use Rattle.qmodes.specs.Modes.{done, spent, scanLeaves, noX, noQInStop}
 
 -- "Kinds 1 to 3 bring their own cause only": no word
 abbrev pub doneBy : QMode → Reply → Bool

@@ -10,13 +10,13 @@ use Rattle.camac.specs.Words.{qmodeOf, wordsOf, directionOf, positionOf}
 use Rattle.camac.specs.declared.words.Command.{Command}
 use Rattle.camac.specs.declared.words.Direction.{Direction}
 use Rattle.camac.specs.declared.words.Direction.the-variants.{Incoming, Outgoing, Neither}
-use Rattle.camac.specs.declared.scan.ScanPosition.{ScanPosition}
+use Rattle.qmodes.specs.declared.scan.ScanPosition.{ScanPosition}
 use Rattle.packing.specs.Packing.{alignedMark, widthOf, stored}
 use Rattle.packing.specs.declared.Marks.{Marks}
 use Rattle.listfile.specs.declared.field.Instruction.the-variants.{Camac, Jump, Literal, Halt}
 use Rattle.walk.specs.Walk.{firstSpot, Visit, noMarks, movedBy, moved}
 use Rattle.reply.specs.Causes.{doneBy, causesOf, greatest, onlyNine}
-use Rattle.camac.specs.Modes.{leftAfter, triesAfter, positionAfter}
+use Rattle.qmodes.specs.Modes.{leftAfter, triesAfter, positionAfter}
 use Rattle.reply.specs.Status.{flagsOf}
 use Rattle.reply.specs.declared.replies.Reply.{Reply}
 use Rattle.reply.specs.declared.replies.Reply.the-variants.{Answered, Timeout, NotRecognised, NoSync}

@@ -7,7 +7,7 @@ use lib.Dec.{ltb, eqb}
 use lib.ListN.{length, take, drop}
 use Rattle.base.specs.Checks.{if_then_else_, allOf, bit}
 use Rattle.base.specs.Bytes.{byteAt}
-use Rattle.camac.specs.declared.modes.Answer.{Answer}
+use Rattle.qmodes.specs.declared.modes.Answer.{Answer}
 use Rattle.reply.specs.declared.replies.Reply.{Reply}
 use Rattle.reply.specs.declared.replies.Reply.the-variants.{Answered, Timeout, NotRecognised, NoSync}
 

@@ -6,7 +6,7 @@ use lib.Bits.{bitOr}
 use Rattle.base.specs.Checks.{if_then_else_}
 use Rattle.camac.specs.Words.{qmodeOf}
 use Rattle.camac.specs.declared.words.Command.{Command}
-use Rattle.camac.specs.Modes.{spent, scanLeaves}
+use Rattle.qmodes.specs.Modes.{spent, scanLeaves}
 use Rattle.reply.specs.declared.replies.Reply.{Reply}
 use Rattle.reply.specs.declared.replies.Reply.the-variants.{Answered, Timeout, NotRecognised, NoSync}
 use Rattle.reply.specs.declared.records.Record.{Record}

@@ -2,9 +2,9 @@
 use crate::records::Record;
 use crate::replies::Reply;
 use crate::status::value_if;
-use camac::Answer;
 use camac::Command;
-use camac::QMode;
+use qmodes::Answer;
+use qmodes::QMode;
 ghost use mathlib.Core.Path.{_≡_};
 ghost use Prim.Native.Nat.{max};
 ghost use Rattle.reply.specs.Causes.{doneBy, parityError, codeOf};
@@ -13,7 +13,7 @@ pub fn done_by(q: QMode, reply: Reply) -> bool
     ensures { λ r. ⌜ r ≡ doneBy q reply ⌝ }
 {
     match reply {
-        Reply::Answered(a) => camac::is_done(q, a),
+        Reply::Answered(a) => qmodes::is_done(q, a),
         Reply::Timeout => false,
         Reply::NotRecognised => false,
         Reply::NoSync => false,
@@ -40,11 +40,11 @@ fn answer_code(limit: usize, c: Command, r: Record, a: Answer) -> u32
     let q = camac::qmode_of(t);
     let ad = c.ad;
     let p = r.position;
-    let no_q = value_if(camac::has_no_q(q, a), 7);
-    let no_x = value_if(camac::has_no_x(q, ad, a), 8);
-    let leaves = value_if(camac::scan_leaves(q, a, p, r.left), 9);
+    let no_q = value_if(qmodes::has_no_q(q, a), 7);
+    let no_x = value_if(qmodes::has_no_x(q, ad, a), 8);
+    let leaves = value_if(qmodes::scan_leaves(q, a, p, r.left), 9);
     let parity = value_if(has_parity_error(ad, a), 10);
-    let spent = value_if(camac::is_spent(limit, q, a, r.tries), 11);
+    let spent = value_if(qmodes::is_spent(limit, q, a, r.tries), 11);
     greater(spent, greater(parity, greater(leaves, greater(no_x, no_q))))
 }
 

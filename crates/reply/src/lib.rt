@@ -1,9 +1,8 @@
-// One operation, one reply: replies, what ends a run, the status word, the record of a run, what a reply does at an operation.
+// One operation, one reply: replies, what ends a run, the status word, the record of a run and its changes.
 pub mod causes;
 pub mod records;
 pub mod replies;
 pub mod status;
-pub mod take;
 
 pub use causes::code_of;
 pub use causes::done_by;
@@ -26,9 +25,3 @@ pub use replies::reply_at;
 pub use replies::reply_of;
 pub use status::WAITING_BITS;
 pub use status::flags_of;
-pub use take::Advance;
-pub use take::Taken;
-pub use take::advance_by;
-pub use take::longword_of;
-pub use take::store_by;
-pub use take::take_here;

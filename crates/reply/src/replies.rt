@@ -1,12 +1,12 @@
 // Replies: what eight bytes say.
-use camac::Answer;
+use qmodes::Answer;
 ghost use mathlib.Core.Path.{_≡_};
 ghost use Prim.Native.Nat.{_+_, _≤_};
 ghost use mathlib.Core.Bool.{true};
 ghost use lib.ListN.{length, take, drop};
 ghost use mathlib.Core.Option.{some};
 ghost use Rattle.reply.specs.Replies.{answerIn, replyOf, isFormed};
-ghost use Rattle.reply.specs.model.Here.{formedBy};
+ghost use Rattle.reply.specs.model.Decoded.{formedBy};
 
 pub enum Reply {
     Answered(Answer),

@@ -1,8 +1,8 @@
 // The status bits of a reply.
 use crate::records::Record;
 use crate::replies::Reply;
-use camac::Answer;
 use camac::Command;
+use qmodes::Answer;
 ghost use mathlib.Core.Path.{_≡_};
 ghost use mathlib.Core.Bool.{_||_};
 ghost use Rattle.base.specs.Checks.{if_then_else_};
@@ -60,10 +60,10 @@ fn answer_flags(limit: usize, c: Command, r: Record, a: Answer) -> u32
     let p = r.position;
     let low = value_if(a.tpe, TPE)
         | (value_if(has_error(a), ERROR) | (value_if(!a.x, NO_X) | value_if(!a.q, NO_Q)));
-    let leaving = camac::scan_leaves(q, a, p, r.left);
+    let leaving = qmodes::scan_leaves(q, a, p, r.left);
     let middle = value_if(a.err, ERR)
         | (value_if(leaving, SCAN_LEFT) | (value_if(a.lpe, LPE) | low));
-    let spent = camac::is_spent(limit, q, a, r.tries);
+    let spent = qmodes::is_spent(limit, q, a, r.tries);
     value_if(a.derr, DERR) | (value_if(spent, TIMEOUT) | middle)
 }
 

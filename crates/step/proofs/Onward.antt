@@ -26,12 +26,12 @@ use Rattle.walk.proofs.Rest.{OnWalk, headed, rest-next}
 use Rattle.walk.proofs.TableFields.{field-past, field-here}
 use Rattle.reply.specs.Effect.{State, endedAt, waitsFor, runOn, stateOf}
 use Rattle.calls.specs.Calls.{noOperation, operationOf}
-use Rattle.reply.specs.model.Here.{resumed, RoomFor, advanceRun, advanceBuffer}
+use Rattle.take.specs.model.Here.{resumed, RoomFor, advanceRun, advanceBuffer}
 use Rattle.reply.specs.declared.records.Record.{Record}
-use Rattle.reply.specs.declared.take.Taken.{Taken}
-use Rattle.reply.specs.declared.take.Taken.the-variants.{Same, Through, Ended}
-use Rattle.reply.specs.declared.take.Advance.the-variants.{On, At}
-use Rattle.reply.proofs.Onward.{went, stays, advance-length}
+use Rattle.take.specs.declared.Taken.{Taken}
+use Rattle.take.specs.declared.Taken.the-variants.{Same, Through, Ended}
+use Rattle.take.specs.declared.Advance.the-variants.{On, At}
+use Rattle.take.proofs.Onward.{went, stays, advance-length}
 use Rattle.step.specs.model.Onward.{Going, recordIn, GoingBy, operationAt, wantedBy}
 use Rattle.walk.specs.declared.visits.Spot.{Spot}
 

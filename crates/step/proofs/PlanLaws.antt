@@ -23,7 +23,7 @@ use Rattle.walk.proofs.Rest.{OnWalk, on-walk, rest-from, rest-next}
 use Rattle.calls.specs.Fit.{fits}
 use Rattle.calls.specs.Calls.{wantedAt, wantedOf}
 use Rattle.reply.specs.Effect.{zeroRecord, stateOf}
-use Rattle.reply.specs.model.Here.{Ready}
+use Rattle.take.specs.model.Here.{Ready}
 use Rattle.reply.specs.declared.records.Record.{Record}
 use Rattle.worst_count.specs.WorstCount.{WaitsAt}
 use Rattle.worst_count.proofs.Live.{Live, camacVisit, waits-once, fits-live, live-waits}

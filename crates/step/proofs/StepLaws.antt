@@ -23,14 +23,14 @@ use Rattle.reply.specs.Replies.{replyOf}
 use Rattle.reply.specs.Effect.{State, runOn, stateOf, zeroRecord}
 use Rattle.calls.specs.Fit.{fits}
 use Rattle.calls.specs.Calls.{notRefused, refusal, Called, refusedCall, takenCall, begun, startPrepared, startOf, takeFrom, takeAt, stepReply, stepPrepared, stepOf, yieldOf, Yields}
-use Rattle.reply.specs.model.Here.{Ready, hereRun, hereBuffer, resumed}
+use Rattle.take.specs.model.Here.{Ready, hereRun, hereBuffer, resumed}
 use Rattle.reply.specs.declared.records.Record.{Record}
 use Rattle.reply.specs.declared.replies.Reply.{Reply}
 use Rattle.calls.specs.declared.operations.Operation.{Operation}
 use Rattle.calls.specs.declared.Yield.{Yield}
-use Rattle.reply.specs.declared.take.Taken.{Taken}
-use Rattle.reply.specs.declared.take.Taken.the-variants.{Same, Through, Ended}
-use Rattle.reply.proofs.TakeHere.{take-here, through}
+use Rattle.take.specs.declared.Taken.{Taken}
+use Rattle.take.specs.declared.Taken.the-variants.{Same, Through, Ended}
+use Rattle.take.proofs.TakeHere.{take-here, through}
 use Rattle.walk.specs.declared.visits.Spot.{Spot}
 use Rattle.worst_count.proofs.FitKept.{FitKept, fit-begun, fit-kept}
 use Rattle.step.specs.model.Onward.{PreparedFor, Going, recordIn, GoingBy, Askable, wantedBy}

@@ -1,9 +1,9 @@
 // On along the walk, and the operation that a record waits for.
 use calls::Operation;
 use listfile::Instruction;
-use reply::Advance;
 use reply::Record;
-use reply::Taken;
+use take::Advance;
+use take::Taken;
 use walk::Spot;
 ghost use mathlib.Core.Path.{_≡_};
 ghost use Prim.Native.Nat.{_≤_, ℕ};
@@ -13,7 +13,7 @@ ghost use mathlib.Core.List.{List};
 ghost use Rattle.walk.specs.Walk.{spotAfter};
 ghost use Rattle.walk.specs.model.Sums.{restFrom};
 ghost use Rattle.reply.specs.Effect.{runOn, stateOf};
-ghost use Rattle.reply.specs.model.Here.{resumed};
+ghost use Rattle.take.specs.model.Here.{resumed};
 ghost use Rattle.step.specs.model.Onward.{Going, recordIn, GoingBy, Askable, wantedBy};
 
 // Where a run comes to along the walk: its record, and the instruction at which it waits or has ended.
@@ -40,7 +40,7 @@ pub fn run_on(
     loop {
         let k = at.instruction;
         let i = listfile::instruction_at(list, table[k]);
-        let next = reply::advance_by(i, at, here, incoming);
+        let next = take::advance_by(i, at, here, incoming);
         match next {
             Advance::On(j, x) => {
                 at = j;

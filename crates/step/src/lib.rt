@@ -118,7 +118,7 @@ fn step_planned(
     let Formed::Reply(answer) = formed else {
         return refuse_by(NOT_FORMED, r);
     };
-    let taken = reply::take_here(sizes.limit, c, answer, r, incoming);
+    let taken = take::take_here(sizes.limit, c, answer, r, incoming);
     let next = resume(list, table, sizes.count, taken, incoming);
     yield_of(list, table, next, outgoing)
 }

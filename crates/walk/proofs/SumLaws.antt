@@ -9,8 +9,8 @@ use native.Mathlib.Omega.{arith}
 use lib.Dec.{eqb}
 use Rattle.base.specs.Checks.{if_then_else_}
 use Rattle.camac.specs.Words.{qmodeIn, wideIn, commandIn, qmodeOf, wordsOf, directionOf, positionOf}
-use Rattle.camac.specs.declared.modes.QMode.{QMode}
-use Rattle.camac.specs.declared.scan.ScanPosition.{ScanPosition}
+use Rattle.qmodes.specs.declared.modes.QMode.{QMode}
+use Rattle.qmodes.specs.declared.scan.ScanPosition.{ScanPosition}
 use Rattle.camac.specs.declared.words.Command.{Command}
 use Rattle.camac.specs.declared.words.Direction.{Direction}
 use Rattle.camac.specs.declared.words.Direction.the-variants.{Incoming, Outgoing, Neither}
@@ -24,9 +24,9 @@ use Rattle.listfile.specs.declared.field.Instruction.the-variants.{Camac, Jump,
 use Rattle.listfile.specs.declared.field.Tag.{Tag}
 use Rattle.listfile.specs.declared.field.Tag.the-variants.{CamacTag, JumpTag, LiteralTag, HaltTag, UnknownTag}
 use Rattle.walk.specs.Walk.{nextOf, movedBy, moved, movedWords, marksAfter}
-use Rattle.camac.specs.Modes.{worstWords}
+use Rattle.qmodes.specs.Modes.{worstWords}
 use Rattle.camac.proofs.BitLaws.{command-qmode, command-wide, command-few}
-use Rattle.camac.proofs.Most.{worst-small}
+use Rattle.qmodes.proofs.Most.{worst-small}
 use Rattle.walk.specs.Worst.{worstOf}
 use Rattle.walk.specs.model.Sums.{FewWords, Below, addedBy, afterCommand, turnOf}
 use Rattle.walk.specs.declared.worst.Counts.{Counts}

@@ -5,7 +5,7 @@ use Rattle.camac.specs.Words.{qmodeOf, wordsOf, positionOf}
 use Rattle.listfile.specs.declared.field.Instruction.{Instruction}
 use Rattle.listfile.specs.declared.field.Instruction.the-variants.{Camac, Jump, Literal, Halt}
 use Rattle.walk.specs.Walk.{Visit}
-use Rattle.camac.specs.Modes.{worstWords}
+use Rattle.qmodes.specs.Modes.{worstWords}
 
 unfoldable pub worstOf : ℕ → Instruction → ℕ
 worstOf limit (Camac c) = worstWords limit (qmodeOf (c .transfer)) (positionOf (c .transfer)) (wordsOf (c .transfer))

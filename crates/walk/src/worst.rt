@@ -25,7 +25,7 @@ pub(crate) fn after_command(limit: u64, c: Command, s: Counts) -> Counts
     let wide = c.wide;
     let words = camac::words_of(t);
     let worst = s.worst
-        + camac::worst_words(limit, camac::qmode_of(t), camac::position_of(t), words);
+        + qmodes::worst_words(limit, camac::qmode_of(t), camac::position_of(t), words);
     let direction = camac::direction_of(t);
     match direction {
         Direction::Incoming => Counts {
@@ -55,7 +55,7 @@ pub(crate) fn after_field(limit: u64, list: &[u8], at: usize, s: Counts) -> Coun
     let wide = camac::is_wide(first);
     let words = listfile::words_at(list, at, first);
     let worst = s.worst
-        + camac::worst_words(limit, camac::qmode_in(first), camac::start_in(first), words);
+        + qmodes::worst_words(limit, camac::qmode_in(first), camac::start_in(first), words);
     if camac::reads(first) {
         return Counts {
             worst,

@@ -1,17 +1,8 @@
 pub mod StepsAreTakes
-pub mod RowLaws
-pub mod WordLaws
-pub mod Tried
-pub mod BitLaws
-pub mod ReadLaws
-pub mod GatherLaws
 pub mod TakeTurn
 pub mod WordsAhead
 pub mod Turns
 pub mod Reach
-pub mod Flags
-pub mod VisitRoom
-pub mod AnswerTurn
 pub mod VisitTurn
 pub mod RunTurn
 pub mod WholeRun

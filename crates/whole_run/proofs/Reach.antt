@@ -27,9 +27,9 @@ use Rattle.walk.specs.Walk.{spotAfter, jumpTo, movedBy}
 use Rattle.walk.specs.model.Sums.{restFrom}
 use Rattle.walk.specs.declared.visits.Spot.{Spot}
 use Rattle.reply.specs.Effect.{zeroRecord, withMarks, runOn, stateOf}
-use Rattle.reply.specs.model.Here.{RoomFor, advanceRun, advanceBuffer}
+use Rattle.take.specs.model.Here.{RoomFor, advanceRun, advanceBuffer}
 use Rattle.reply.specs.declared.records.Record.{Record}
-use Rattle.reply.specs.declared.take.Advance.the-variants.{On}
+use Rattle.take.specs.declared.Advance.the-variants.{On}
 use Rattle.step.specs.model.Onward.{Going}
 use Rattle.step.proofs.Onward.{within, room-here, onward}
 use Rattle.whole_run.specs.model.Along.{Ahead, AtCommand}

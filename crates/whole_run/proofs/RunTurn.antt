@@ -10,14 +10,14 @@ use lib.Bits.{bitOr, or-zero-r}
 use lib.ListN.{length, getD}
 use Rattle.camac.specs.Words.{qmodeOf, addressIn, wordsOf, positionOf, directionOf, commandIn}
 use Rattle.camac.specs.model.Bits.{Passes}
-use Rattle.camac.specs.declared.modes.QMode.{QMode}
-use Rattle.camac.specs.declared.modes.QMode.the-variants.{Stop, Ignore, Repeat, Scan}
-use Rattle.camac.specs.declared.scan.ScanPosition.{ScanPosition}
+use Rattle.qmodes.specs.declared.modes.QMode.{QMode}
+use Rattle.qmodes.specs.declared.modes.QMode.the-variants.{Stop, Ignore, Repeat, Scan}
+use Rattle.qmodes.specs.declared.scan.ScanPosition.{ScanPosition}
 use Rattle.camac.specs.declared.words.Command.{Command}
 use Rattle.camac.specs.declared.words.Direction.{Direction}
 use Rattle.camac.specs.declared.words.Direction.the-variants.{Incoming, Outgoing, Neither}
 use Rattle.camac.proofs.BitLaws.{command-address}
-use Rattle.camac.proofs.MostFalls.{PositionOk}
+use Rattle.qmodes.proofs.MostFalls.{PositionOk}
 use Rattle.packing.specs.declared.Marks.{Marks}
 use Rattle.listfile.specs.Fields.{tagAt, firstAt, secondAt}
 use Rattle.listfile.specs.model.Table.{instructionBy, instructionAt, FieldPassed}
@@ -37,13 +37,13 @@ use Rattle.worst_count.proofs.FitKept.{FitNumbers, fits-numbers}
 use Rattle.step.specs.model.Place.{Alive}
 use Rattle.step.proofs.PlanLaws.{in-table, on-next}
 use Rattle.step.proofs.Onward.{within, Begins, begins}
-use Rattle.whole_run.specs.model.Row.{rowFrom, FormedFrom, Grounds, Stage, Moves}
-use Rattle.whole_run.specs.model.Words.{Answered, gatheredBits}
-use Rattle.whole_run.specs.model.Visit.{rulesOf, placeOf, positionAt, recordAt, marksBehind, Passed, Roomy}
+use Rattle.whole_run.specs.model.Row.{rowFrom, Grounds, Stage, Moves}
+use Rattle.row.specs.model.Words.{FormedFrom, Answered, gatheredBits}
+use Rattle.answers.specs.model.Visit.{rulesOf, placeOf, positionAt, recordAt, marksBehind, Passed, Roomy}
 use Rattle.whole_run.specs.model.Along.{Ahead, Tabled, Reaches, arrived, between, stayOf, stopRecord}
 use Rattle.whole_run.specs.declared.along.Reached.{Reached}
-use Rattle.whole_run.specs.declared.visit.Rules.{Rules}
-use Rattle.whole_run.specs.declared.visit.Stay.{Stay}
+use Rattle.answers.specs.declared.Rules.{Rules}
+use Rattle.answers.specs.declared.Stay.{Stay}
 use Rattle.whole_run.proofs.WordsAhead.{grounds-sound, ahead}
 use Rattle.whole_run.proofs.Turns.{decoded, decoded-as}
 use Rattle.whole_run.proofs.Reach.{field-passed, by-tag}

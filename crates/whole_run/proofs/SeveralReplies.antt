@@ -27,7 +27,8 @@ use Rattle.worst_count.proofs.FitKept.{fit-kept}
 use Rattle.step.specs.model.Onward.{PreparedFor, Askable, wantedBy}
 use Rattle.step.proofs.PlanLaws.{sound, askable, wanted-by}
 use Rattle.whole_run.specs.model.Row.{takesOver, rowFrom, stoppedAt, Grounds, Stage}
-use Rattle.whole_run.proofs.StepsAreTakes.{formed-head, takes-over, takes-more, steps-takes}
+use Rattle.row.proofs.RowLaws.{formed-head}
+use Rattle.whole_run.proofs.StepsAreTakes.{takes-over, takes-more, steps-takes}
 
 -- what replies leave has ended or fits
 takes-stage : (p : Plan) → SoundPlan p → (rs : List (List ℕ)) (taken : ℕ) (s : State) → allFormed rs ≡ true → Stage p (s .run)

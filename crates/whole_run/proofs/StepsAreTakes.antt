@@ -1,16 +1,18 @@
 -- The whole run is its replies taken one after the other: a step at a record that fits takes its reply, and what it leaves has ended or fits
--- again, so that no step looks at the list anew. A run that is refused is refused before it starts.
-use Prim.Native.Nat.{ℕ, _+_}
+-- again, so that no step looks at the list anew. A run that is refused is refused before it starts. One turn of a loop over the row takes one
+-- reply.
+use Prim.Native.Nat.{ℕ, _+_, _/_, _≤_, _<_}
 use mathlib.Core.Path.{_≡_, refl, sym, ap, ap₂, _∙_}
 use mathlib.Core.Logic.{inl, inr}
-use mathlib.Core.Bool.{Bool, true, false, true≢false, false≢true}
+use mathlib.Core.Bool.{Bool, true, false, true≢false}
 use mathlib.Core.List.{List, [], _∷_}
-use mathlib.Core.Option.{Option, none, some}
-use lib.ListN.{length}
+use mathlib.Core.Option.{Option, some}
+use native.Mathlib.Omega.{arith}
+use lib.ListN.{length, take, drop}
 use Rattle.base.specs.Checks.{if_then_else_}
 use Rattle.base.specs.declared.Refusal.{Refusal}
 use Rattle.walk.specs.Admission.{Plan, unfit, ready, prepare}
-use Rattle.reply.specs.Replies.{replyOf, isSome, repliesIn, allFormed}
+use Rattle.reply.specs.Replies.{replyOf, repliesIn, allFormed}
 use Rattle.reply.specs.Effect.{State}
 use Rattle.calls.specs.Fit.{fits}
 use Rattle.calls.specs.Calls.{notRefused, Called, refusal, begun, takeAt, stepReply, stepOf, stepsOver, refusedRun, runOf}
@@ -18,21 +20,8 @@ use Rattle.reply.specs.declared.replies.Reply.{Reply}
 use Rattle.worst_count.proofs.Admitted.{SoundPlan}
 use Rattle.worst_count.proofs.Sequences.{start-state}
 use Rattle.worst_count.proofs.FitKept.{fit-begun, fit-kept, step-fits}
-use Rattle.whole_run.specs.model.Row.{takeBytes, takesOver, rowFrom, Stage}
-
--- a formed row's first reply, and the rest of it
-pub record FormedHead (r : List ℕ) (rs : List (List ℕ)) : Type 0 where
-  pub reply : Reply
-  pub is : replyOf r ≡ some reply
-  pub rest : allFormed rs ≡ true
-
-pub formed-head : (r : List ℕ) (rs : List (List ℕ)) → allFormed (r ∷ rs) ≡ true → FormedHead r rs
-unfolding allFormed
-formed-head r rs h = go (replyOf r) refl h
-  where
-    go : (x : Option Reply) → replyOf r ≡ x → (if isSome x then allFormed rs else false) ≡ true → FormedHead r rs
-    go none e h = absurd (false≢true h)
-    go (some reply) e h = record { reply = reply; is = e; rest = h }
+use Rattle.row.proofs.RowLaws.{FormedHead, formed-head, row-cut, row-end}
+use Rattle.whole_run.specs.model.Row.{takeBytes, takesOver, rowFrom, stoppedAt, Stage}
 
 if-true : {A : Type 0} {b : Bool} (x y : A) → b ≡ true → (if b then x else y) ≡ x
 if-true x y e = rw e
@@ -111,3 +100,24 @@ module _ (list incoming outgoing row : List ℕ) where
         (ap (λ (s : State). stepsOver list (repliesIn row) 0 s) (start-state list incoming outgoing p prepared sound)
         ∙ steps-takes list p sound (repliesIn row) 0 (begun p incoming outgoing)
         (ap₂ (λ (i o : ℕ). prepare list i o) (k .same-length) (ap length (k .same-outgoing)) ∙ prepared) e (k .ended-or-fits))
+
+-- The run over a row ---------------------------------------------------------------------------------------------------
+
+module _ (row : List ℕ) (at : ℕ) where
+  pub row-turn : (p : Plan) (s : State) (reply : Reply) → at < length row → s .run .ended ≡ false
+      → replyOf (take 8 (drop at row)) ≡ some reply
+      → rowFrom p row at s ≡ rowFrom p row (at + 8) (takeAt p reply s)
+  unfolding rowFrom
+  row-turn p s reply h e f =
+      let n : at / 8 + 1 ≡ (at + 8) / 8 = omega arith in
+      ap (λ (rs : List (List ℕ)). takesOver p rs (at / 8) s) (row-cut row at h)
+      ∙ takes-more p (take 8 (drop at row)) (repliesIn (drop (at + 8) row)) (at / 8) s reply e f
+      ∙ ap (λ (k : ℕ). takesOver p (repliesIn (drop (at + 8) row)) k (takeAt p reply s)) n
+
+  pub row-over : (p : Plan) (s : State) → s .run .ended ≡ true → rowFrom p row at s ≡ stoppedAt at s
+  unfolding rowFrom
+  row-over p s e = takes-over p (repliesIn (drop at row)) (at / 8) s e
+
+  pub row-used : (p : Plan) (s : State) → length row ≤ at → rowFrom p row at s ≡ stoppedAt at s
+  unfolding rowFrom takesOver
+  row-used p s h = rw (row-end row at h)

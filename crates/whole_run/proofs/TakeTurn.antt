@@ -15,13 +15,13 @@ use Rattle.reply.specs.Causes.{doneBy, codeOf}
 use Rattle.reply.specs.Effect.{State, movedRecord, counted, waiting, takeReply, stateOf}
 use Rattle.calls.specs.Fit.{fits}
 use Rattle.calls.specs.Calls.{takeFrom, takeAt}
-use Rattle.reply.specs.model.Here.{onRun, hereRun, hereBuffer, resumed}
+use Rattle.take.specs.model.Here.{onRun, hereRun, hereBuffer, resumed}
 use Rattle.reply.specs.declared.replies.Reply.{Reply}
 use Rattle.reply.specs.declared.records.Record.{Record}
-use Rattle.reply.specs.declared.take.Taken.{Taken}
-use Rattle.reply.specs.declared.take.Taken.the-variants.{Same}
+use Rattle.take.specs.declared.Taken.{Taken}
+use Rattle.take.specs.declared.Taken.the-variants.{Same}
 use Rattle.base.proofs.Tests.{on}
-use Rattle.reply.proofs.TakeHere.{take-here}
+use Rattle.take.proofs.TakeHere.{take-here}
 use Rattle.worst_count.proofs.Live.{fits-live, live-waits}
 use Rattle.worst_count.proofs.Admitted.{SoundPlan}
 use Rattle.worst_count.proofs.FitKept.{fits-numbers, fit-kept}

@@ -22,21 +22,23 @@ use Rattle.walk.specs.model.Sums.{restFrom, planBy}
 use Rattle.reply.specs.Replies.{replyOf}
 use Rattle.reply.specs.Effect.{State, runOn, stateOf}
 use Rattle.calls.specs.Calls.{takeAt}
-use Rattle.reply.specs.model.Here.{Ready, hereRun, hereBuffer, resumed}
+use Rattle.take.specs.model.Here.{Ready, hereRun, hereBuffer, resumed}
 use Rattle.reply.specs.declared.replies.Reply.{Reply}
 use Rattle.reply.specs.declared.records.Record.{Record}
-use Rattle.reply.specs.declared.take.Taken.{Taken}
-use Rattle.reply.specs.declared.take.Taken.the-variants.{Same, Through, Ended}
+use Rattle.take.specs.declared.Taken.{Taken}
+use Rattle.take.specs.declared.Taken.the-variants.{Same, Through, Ended}
 use Rattle.step.specs.model.Onward.{Going, recordIn, GoingBy}
 use Rattle.step.proofs.PlanLaws.{ready-here, going-next, on-next, command-at}
-use Rattle.whole_run.specs.model.Row.{rowFrom, stoppedAt, FormedFrom, Grounds, Stage, Stays, Moves}
+use Rattle.whole_run.specs.model.Row.{rowFrom, stoppedAt, Grounds, Stage, Stays, Moves}
+use Rattle.row.specs.model.Words.{FormedFrom}
 use Rattle.step.specs.model.Place.{Alive}
-use Rattle.whole_run.proofs.RowLaws.{formed-here, row-turn, row-over, row-used}
+use Rattle.row.proofs.RowLaws.{formed-here}
+use Rattle.whole_run.proofs.StepsAreTakes.{row-turn, row-over, row-used}
 use Rattle.whole_run.proofs.TakeTurn.{alive-waits, took, took-stage, took-same, stage-alive}
 use Rattle.whole_run.proofs.WordsAhead.{grounds-sound}
 use Rattle.walk.specs.declared.visits.Spot.{Spot}
 use Rattle.walk.specs.Walk.{spotAfter}
-use Rattle.reply.proofs.TakeHere.{through}
+use Rattle.take.proofs.TakeHere.{through}
 
 -- Along a row ------------------------------------------------------------------------------------------------------------
 

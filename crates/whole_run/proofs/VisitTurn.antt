@@ -12,11 +12,11 @@ use lib.Dec.{ltb}
 use lib.ListN.{length, take, drop}
 use Rattle.base.proofs.Tests.{on}
 use Rattle.camac.specs.Words.{qmodeOf, directionOf}
-use Rattle.camac.specs.Modes.{done, spent, scanLeaves}
-use Rattle.camac.specs.model.Answers.{wordFlags, canWait, wordsAhead, placeAfterWords}
-use Rattle.camac.specs.declared.modes.Answer.{Answer}
-use Rattle.camac.specs.declared.modes.QMode.{QMode}
-use Rattle.camac.specs.declared.modes.QMode.the-variants.{Stop, Ignore, Repeat, Scan}
+use Rattle.qmodes.specs.Modes.{done, spent, scanLeaves}
+use Rattle.qmodes.specs.model.Answers.{wordFlags, canWait, wordsAhead, placeAfterWords}
+use Rattle.qmodes.specs.declared.modes.Answer.{Answer}
+use Rattle.qmodes.specs.declared.modes.QMode.{QMode}
+use Rattle.qmodes.specs.declared.modes.QMode.the-variants.{Stop, Ignore, Repeat, Scan}
 use Rattle.camac.specs.declared.words.Command.{Command}
 use Rattle.camac.specs.declared.words.Direction.{Direction}
 use Rattle.camac.specs.declared.words.Direction.the-variants.{Incoming, Outgoing, Neither}
@@ -31,22 +31,22 @@ use Rattle.walk.specs.declared.visits.Spot.{Spot}
 use Rattle.walk.proofs.Halting.{Halts, halts}
 use Rattle.reply.specs.Replies.{replyOf, repliesIn, allFormed}
 use Rattle.reply.specs.Effect.{State, runOn, waitsFor, endedAt, putLiteral, withMarks, movedRecord, movedBytes, storedBy, counted, longwordOf, stateOf}
-use Rattle.reply.specs.model.Here.{hereRun, hereBuffer}
+use Rattle.take.specs.model.Here.{hereRun, hereBuffer}
 use Rattle.reply.specs.declared.records.Record.{Record}
 use Rattle.reply.specs.declared.replies.Reply.the-variants.{Answered}
-use Rattle.reply.specs.declared.take.Taken.the-variants.{Same, Through}
+use Rattle.take.specs.declared.Taken.the-variants.{Same, Through}
 use Rattle.step.specs.model.Onward.{Going}
 use Rattle.step.specs.model.Place.{Alive}
-use Rattle.whole_run.specs.model.Row.{rowFrom, FormedFrom, Grounds, Stage, Stays}
-use Rattle.whole_run.specs.model.Words.{AnswersTo, longwordIn, flagsAt, wordsStored, answerBy}
-use Rattle.whole_run.specs.model.Visit.{rulesOf, positionAt, recordAt, marksBehind, noteBehind, afterWords, bytesBy, bytesAfter, afterWait, Words, Waits, Passed, none, words, wait}
-use Rattle.whole_run.specs.declared.visit.Rules.{Rules}
-use Rattle.whole_run.specs.declared.visit.Stay.{Stay}
-use Rattle.whole_run.proofs.WordLaws.{formed-from, reply-flags, dataAt, reply-answered, reply-longword, words-fewer}
-use Rattle.whole_run.proofs.Flags.{Fine, flags-word, flags-wait}
-use Rattle.whole_run.proofs.VisitRoom.{marks-add, ahead-most, bytes-length, words-taken, wait-taken}
+use Rattle.whole_run.specs.model.Row.{rowFrom, Grounds, Stage, Stays}
+use Rattle.row.specs.model.Words.{FormedFrom, AnswersTo, longwordIn, flagsAt, wordsStored, answerBy}
+use Rattle.answers.specs.model.Visit.{rulesOf, positionAt, recordAt, marksBehind, noteBehind, afterWords, bytesBy, bytesAfter, afterWait, Words, Waits, Passed, none, words, wait}
+use Rattle.answers.specs.declared.Rules.{Rules}
+use Rattle.answers.specs.declared.Stay.{Stay}
+use Rattle.row.proofs.WordLaws.{formed-from, reply-flags, dataAt, reply-answered, reply-longword, words-fewer}
+use Rattle.row.proofs.Flags.{Fine, flags-word, flags-wait}
+use Rattle.answers.proofs.VisitRoom.{marks-add, ahead-most, bytes-length, words-taken, wait-taken}
 use Rattle.whole_run.proofs.Turns.{stays-here, stays-on, stays, going, through-goes, through-stage}
-use Rattle.whole_run.proofs.AnswerTurn.{NoCause, word-stays, last-stays, wait-stays, word-unspent, wait-unspent, word-run, last-run, wait-run, word-buffer, wait-buffer, next-word, next-wait, operations, status, note, marks-one}
+use Rattle.answers.proofs.AnswerTurn.{NoCause, word-stays, last-stays, wait-stays, word-unspent, wait-unspent, word-run, last-run, wait-run, word-buffer, wait-buffer, next-word, next-wait, operations, status, note, marks-one}
 
 -- What the walk looks at ---------------------------------------------------------------------------------------------------
 

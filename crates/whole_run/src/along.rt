@@ -1,11 +1,11 @@
 // On along the walk and over the answers, with no record made before the run stops.
-use crate::visit::Stay;
-use crate::visit::rules_in;
-use crate::visit::visit;
+use answers::Stay;
+use answers::rules_in;
+use answers::visit;
 use camac::Direction;
-use camac::ScanPosition;
 use listfile::Sizes;
 use packing::Marks;
+use qmodes::ScanPosition;
 use reply::Record;
 use walk::Spot;
 ghost use mathlib.Core.Path.{_≡_};
@@ -15,9 +15,9 @@ ghost use Rattle.camac.specs.Words.{commandIn, wordsOf};
 ghost use Rattle.walk.specs.Walk.{movedBy};
 ghost use lib.ListN.{length};
 ghost use Rattle.walk.specs.model.Sums.{planBy};
-ghost use Rattle.whole_run.specs.model.Row.{FormedFrom, Grounds, Stage, Moves};
-ghost use Rattle.whole_run.specs.model.Words.{Answered};
-ghost use Rattle.whole_run.specs.model.Visit.{placeOf};
+ghost use Rattle.whole_run.specs.model.Row.{Grounds, Stage, Moves};
+ghost use Rattle.row.specs.model.Words.{FormedFrom, Answered};
+ghost use Rattle.answers.specs.model.Visit.{placeOf};
 ghost use Rattle.whole_run.specs.model.Along.{Ahead, Tabled, Reaches, arrived, between, stayOf, stopRecord};
 
 // Tags of an admitted list: a CAMAC instruction's is below these, and one that is neither is a literal's.

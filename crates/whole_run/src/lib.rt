@@ -1,26 +1,21 @@
 // The whole run over a row of replies: the row is read once, words and waits are passed along the walk by one loop, and every other reply goes
 // through the function that a step uses.
 pub mod along;
-pub mod row;
 pub mod several;
-pub mod visit;
-pub mod words;
 
 use crate::along::run_answers;
-use crate::row::gathered;
 pub use along::Reached;
 pub use along::Stop;
 use base::Refusal;
 use calls::Ran;
-use camac::ScanPosition;
 use listfile::Instruction;
 use listfile::Sizes;
+use qmodes::ScanPosition;
 use reply::Record;
-pub use row::RowRead;
-pub use row::read_row;
+use row::RowRead;
+use row::gathered;
+use row::read_row;
 pub use several::steps;
-pub use visit::Rules;
-pub use visit::Stay;
 use walk::Preparation;
 ghost use mathlib.Core.Path.{_≡_};
 ghost use mathlib.Core.Bool.{true, false};
@@ -30,8 +25,8 @@ ghost use lib.ListN.{length};
 ghost use Rattle.walk.specs.model.Sums.{planBy};
 ghost use Rattle.reply.specs.Effect.{stateOf};
 ghost use Rattle.calls.specs.Calls.{refusedRecord, runOf, Runs};
-ghost use Rattle.whole_run.specs.model.Row.{rowFrom, stoppedAt, FormedFrom, Grounds, Stage, Moves};
-ghost use Rattle.whole_run.specs.model.Words.{Answered};
+ghost use Rattle.whole_run.specs.model.Row.{rowFrom, stoppedAt, Grounds, Stage, Moves};
+ghost use Rattle.row.specs.model.Words.{FormedFrom, Answered};
 ghost use Rattle.whole_run.specs.model.Along.{stopRecord};
 
 // A record with the number of replies taken.
@@ -91,7 +86,7 @@ fn take_other(
         return r;
     };
     let reply = reply::reply_at(row, at);
-    let taken = reply::take_here(sizes.limit, c, reply, r, incoming);
+    let taken = take::take_here(sizes.limit, c, reply, r, incoming);
     step::resume(list, table, sizes.count, taken, incoming)
 }
 

@@ -1,10 +1,10 @@
 // Several replies from a record on: the list is prepared once, and the row is checked before its first reply is taken.
-use crate::row::RowRead;
-use crate::row::read_row;
 use crate::run_replies;
 use base::Refusal;
 use calls::Stepped;
 use reply::Record;
+use row::RowRead;
+use row::read_row;
 use step::Fitting;
 use walk::Planned;
 use walk::Preparation;

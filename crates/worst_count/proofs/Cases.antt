@@ -1,13 +1,13 @@
 -- Document 01's cases hold: both sides of each equation compute to the same.
 use Prim.Native.Nat.{ℕ}
 use mathlib.Core.Path.{refl}
-use Rattle.camac.specs.Scan.{positions, stations, afterOther, afterDone}
+use Rattle.qmodes.specs.Scan.{positions, stations, afterOther, afterDone}
 use Rattle.camac.specs.Words.{addressIn, blockWords, transferIn, commandIn, qmodeOf, addressOf, wordsOf, directionOf, camacFault, decodeOf}
 use Rattle.packing.specs.Packing.{padAt, alignedMark, widthOf, markAfter, stored, wordAt}
 use Rattle.base.specs.Bytes.{byteAt, shortAt, longAt}
 use Rattle.listfile.specs.Fields.{firstAt, secondAt, headFault, bodyOf, fieldOf, firstFault, fieldsFrom, firstBadJump, programOf}
 use Rattle.walk.specs.Walk.{walkFrom, walkOf, upTo, onFrom, moved, movedWords, marksAfter, marksOver}
-use Rattle.camac.specs.Modes.{worstWords, leaves, triesAfter, positionAfter, mostLeft}
+use Rattle.qmodes.specs.Modes.{worstWords, leaves, triesAfter, positionAfter, mostLeft}
 use Rattle.walk.specs.Worst.{worstOf, worstOver}
 use Rattle.walk.specs.Admission.{planOf, countsOf, prepare, admitOf}
 use Rattle.reply.specs.Replies.{answerIn, hasForm, replyOf, cutRow, repliesIn, allFormed}

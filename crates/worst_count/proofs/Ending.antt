@@ -24,7 +24,7 @@ use Rattle.reply.specs.Replies.{replyOf}
 use Rattle.reply.specs.Causes.{doneBy, causesOf, greatest, codeOf, onlyNine}
 use Rattle.reply.specs.Status.{flagsOf, codeIn}
 use Rattle.reply.specs.Effect.{State, withRun, endedAt, waitsFor, putLiteral, runOn, movedRecord, moveWord, counted, waiting, longwordOf, goOn, byCauses, takeReply, stateOf, zeroRecord}
-use Rattle.camac.specs.Modes.{triesAfter, positionAfter}
+use Rattle.qmodes.specs.Modes.{triesAfter, positionAfter}
 use Rattle.calls.specs.Calls.{begun, stepOf}
 use Rattle.reply.specs.declared.records.Record.{Record}
 use Rattle.reply.specs.declared.replies.Reply.{Reply}

@@ -8,8 +8,8 @@ use mathlib.Core.List.{List}
 use native.Mathlib.Omega.{arith}
 use lib.ListN.{length, getD}
 use Rattle.camac.specs.Words.{qmodeOf, wordsOf, positionOf}
-use Rattle.camac.specs.declared.modes.QMode.{QMode}
-use Rattle.camac.specs.declared.modes.QMode.the-variants.{Stop, Ignore, Repeat, Scan}
+use Rattle.qmodes.specs.declared.modes.QMode.{QMode}
+use Rattle.qmodes.specs.declared.modes.QMode.the-variants.{Stop, Ignore, Repeat, Scan}
 use Rattle.camac.specs.declared.words.Command.{Command}
 use Rattle.walk.specs.Walk.{Visit, moved}
 use Rattle.walk.specs.Worst.{worstOver}
@@ -22,7 +22,7 @@ use Rattle.calls.specs.Fit.{fits}
 use Rattle.calls.specs.Calls.{begun, takeAt, stepReply, stepOf}
 use Rattle.reply.specs.declared.records.Record.{Record}
 use Rattle.reply.specs.declared.replies.Reply.{Reply}
-use Rattle.camac.proofs.MostFalls.{TriesOk, PositionOk}
+use Rattle.qmodes.proofs.MostFalls.{TriesOk, PositionOk}
 use Rattle.worst_count.specs.WorstCount.{WaitsAt}
 use Rattle.worst_count.proofs.StatusBits.{only-le}
 use Rattle.worst_count.proofs.Live.{near-le, Live, waits-once, fits-live, live-waits, live-fits}

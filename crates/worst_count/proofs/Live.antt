@@ -11,11 +11,11 @@ use lib.Dec.{leb, eqb}
 use lib.Bits.{bitAnd}
 use Rattle.base.specs.Checks.{allOf}
 use Rattle.camac.specs.Words.{qmodeOf, wordsOf, positionOf}
-use Rattle.camac.specs.declared.modes.QMode.{QMode}
-use Rattle.camac.specs.declared.modes.QMode.the-variants.{Stop, Ignore, Repeat, Scan}
+use Rattle.qmodes.specs.declared.modes.QMode.{QMode}
+use Rattle.qmodes.specs.declared.modes.QMode.the-variants.{Stop, Ignore, Repeat, Scan}
 use Rattle.camac.specs.declared.words.Command.{Command}
-use Rattle.camac.specs.declared.scan.ScanPosition.{ScanPosition}
-use Rattle.camac.proofs.MostFalls.{TriesOk, PositionOk, Near, Room}
+use Rattle.qmodes.specs.declared.scan.ScanPosition.{ScanPosition}
+use Rattle.qmodes.proofs.MostFalls.{TriesOk, PositionOk, Near, Room}
 use Rattle.base.proofs.Bools.{both, and-left, and-right, or-cases, or-left, or-right}
 use Rattle.packing.specs.declared.Marks.{Marks}
 use Rattle.listfile.specs.declared.field.Instruction.{Instruction}
@@ -25,7 +25,7 @@ use Rattle.walk.specs.Worst.{worstOver}
 use Rattle.walk.specs.Admission.{Plan}
 use Rattle.walk.proofs.Halting.{Distinct, found, Halts, halts-after, Well, well-after}
 use Rattle.reply.specs.Status.{waitingBits}
-use Rattle.camac.specs.Modes.{mostLeft, triesFit, samePosition, positionFits}
+use Rattle.qmodes.specs.Modes.{mostLeft, triesFit, samePosition, positionFits}
 use Rattle.calls.specs.Fit.{marksFit, noteFits, fitsAt, fitsFrom, fits}
 use Rattle.reply.specs.declared.records.Note.{Note}
 use Rattle.reply.specs.declared.records.Record.{Record}

@@ -23,8 +23,8 @@ use Rattle.walk.specs.Worst.{worstOver}
 use Rattle.walk.specs.Admission.{Plan}
 use Rattle.walk.proofs.Halting.{Halts, Well}
 use Rattle.walk.proofs.MarksGrow.{over-append, BelowMarks, words-grow, over-snoc, below}
-use Rattle.camac.specs.Modes.{mostLeft}
-use Rattle.camac.proofs.MostFalls.{Near, Progress, finished, going, most-some}
+use Rattle.qmodes.specs.Modes.{mostLeft}
+use Rattle.qmodes.proofs.MostFalls.{Near, Progress, finished, going, most-some}
 use Rattle.reply.specs.Causes.{greatest, onlyNine}
 use Rattle.reply.specs.Status.{flagsOf, waitingBits}
 use Rattle.reply.specs.Effect.{State, withRun, endedAt, noteAfter, storedBy, movedBytes, movedRecord, moveWord, counted, waiting, goOn, byCauses}

@@ -10,8 +10,8 @@ use native.Mathlib.Nat.{le-refl, le-trans, sub-self}
 use lib.ListN.{length, getD}
 use lib.Seq.{append-snoc}
 use Rattle.camac.specs.Words.{qmodeOf, wordsOf, positionOf}
-use Rattle.camac.specs.declared.modes.QMode.{QMode}
-use Rattle.camac.specs.declared.modes.QMode.the-variants.{Stop, Ignore, Repeat, Scan}
+use Rattle.qmodes.specs.declared.modes.QMode.{QMode}
+use Rattle.qmodes.specs.declared.modes.QMode.the-variants.{Stop, Ignore, Repeat, Scan}
 use Rattle.camac.specs.declared.words.Command.{Command}
 use Rattle.camac.specs.declared.words.Direction.the-variants.{Incoming}
 use Rattle.packing.specs.Packing.{markAfter}
@@ -21,7 +21,7 @@ use Rattle.listfile.specs.declared.field.Instruction.{Instruction}
 use Rattle.listfile.specs.declared.field.Instruction.the-variants.{Camac, Jump, Literal, Halt}
 use Rattle.listfile.proofs.Sound.{SoundCommand}
 use Rattle.walk.specs.Walk.{Visit, noMarks, movedBy, movedWords, marksAfter, marksOver}
-use Rattle.camac.specs.Modes.{worstWords, mostLeft}
+use Rattle.qmodes.specs.Modes.{worstWords, mostLeft}
 use Rattle.walk.specs.Worst.{worstOf, worstOver}
 use Rattle.walk.specs.Admission.{Plan}
 use Rattle.walk.proofs.Halting.{Halts, Well}
@@ -30,8 +30,8 @@ use Rattle.reply.specs.Status.{codeIn, waitingBits}
 use Rattle.reply.specs.Effect.{State, endedAt, waitsFor, putLiteral, runOn}
 use Rattle.reply.specs.declared.records.Note.{Note}
 use Rattle.reply.specs.declared.records.Record.{Record}
-use Rattle.camac.proofs.ScanFalls.{scan-within}
-use Rattle.camac.proofs.MostFalls.{TriesOk, PositionOk, Near, Room}
+use Rattle.qmodes.proofs.ScanFalls.{scan-within}
+use Rattle.qmodes.proofs.MostFalls.{TriesOk, PositionOk, Near, Room}
 use Rattle.worst_count.proofs.StatusBits.{Only, only-clear, ended-code}
 use Rattle.worst_count.proofs.Live.{MarksOk, marks-ok-same, marks-ok-by, marks-ok-below, NoteOk, unmoved, read, wrote, Live}
 use Rattle.walk.specs.declared.visits.Spot.{Spot}

@@ -18,7 +18,7 @@ use Rattle.calls.specs.Fit.{fits}
 use Rattle.calls.specs.Calls.{Called, refusal, refusedCall, takenCall, begun, startOf, takeFrom, takeAt, stepReply, stepPrepared, stepOf}
 use Rattle.reply.specs.declared.replies.Reply.{Reply}
 use Rattle.worst_count.specs.WorstCount.{Lent, own, other, finds, leaves, Calls, no-call, taken, refused, afterReplies, startState, NoneRefused}
-use Rattle.camac.proofs.MostFalls.{Near}
+use Rattle.qmodes.proofs.MostFalls.{Near}
 use Rattle.worst_count.proofs.Live.{marks-ok-start, Live, unmoved, live-on, live-fits}
 use Rattle.worst_count.proofs.Take.{takes}
 use Rattle.worst_count.proofs.RunOn.{lastMarks, Kept, Over, Reached, runs-on}

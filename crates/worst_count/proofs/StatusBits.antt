@@ -10,9 +10,9 @@ use lib.Bits.{bitAnd, bitOr, and-step, or-step, or-shr, and-shr, and-zero-l, and
 use Rattle.base.specs.Checks.{if_then_else_, bit}
 use Rattle.camac.specs.Words.{qmodeOf}
 use Rattle.camac.specs.declared.words.Command.{Command}
-use Rattle.camac.specs.Modes.{spent, scanLeaves}
+use Rattle.qmodes.specs.Modes.{spent, scanLeaves}
 use Rattle.reply.specs.Status.{flagsOf, codeIn, waitingBits}
-use Rattle.camac.specs.declared.modes.Answer.{Answer}
+use Rattle.qmodes.specs.declared.modes.Answer.{Answer}
 use Rattle.reply.specs.declared.records.Record.{Record}
 use Rattle.reply.specs.declared.replies.Reply.{Reply}
 use Rattle.reply.specs.declared.replies.Reply.the-variants.{Answered, Timeout, NotRecognised, NoSync}

@@ -11,7 +11,7 @@ use Rattle.walk.specs.Worst.{worstOver}
 use Rattle.walk.specs.Admission.{Plan}
 use Rattle.walk.proofs.Halting.{Halts, Well}
 use Rattle.reply.specs.Causes.{doneBy, causeChecks, allThatHold, causesOf}
-use Rattle.camac.proofs.MostFalls.{Progress, answer-progress}
+use Rattle.qmodes.proofs.MostFalls.{Progress, answer-progress}
 use Rattle.reply.specs.Status.{flagsOf, waitingBits}
 use Rattle.reply.specs.Effect.{State, withRun, counted, longwordOf, byCauses, takeReply}
 use Rattle.reply.specs.declared.replies.Reply.{Reply}

@@ -10,8 +10,8 @@ use native.Mathlib.Omega.{arith}
 use lib.ListN.{length}
 use Rattle.base.specs.Checks.{if_then_else_}
 use Rattle.camac.specs.Words.{qmodeOf, positionOf}
-use Rattle.camac.specs.declared.modes.QMode.{QMode}
-use Rattle.camac.specs.declared.modes.QMode.the-variants.{Stop, Ignore, Repeat, Scan}
+use Rattle.qmodes.specs.declared.modes.QMode.{QMode}
+use Rattle.qmodes.specs.declared.modes.QMode.the-variants.{Stop, Ignore, Repeat, Scan}
 use Rattle.camac.specs.declared.words.Command.{Command}
 use Rattle.packing.specs.declared.Marks.{Marks}
 use Rattle.base.specs.Bytes.{byteAt, Bytes}
@@ -20,12 +20,12 @@ use Rattle.walk.specs.Admission.{Plan, ready, prepare, countsOf, admitOf}
 use Rattle.walk.specs.declared.worst.Counts.{Counts}
 use Rattle.walk.specs.declared.Admission.the-variants.{Admitted}
 use Rattle.reply.specs.Replies.{answerIn, hasForm, replyOf}
-use Rattle.camac.specs.Modes.{done, scanLeaves, spent, noX, noQInStop}
+use Rattle.qmodes.specs.Modes.{done, scanLeaves, spent, noX, noQInStop}
 use Rattle.reply.specs.Causes.{causeChecks, causesOf}
 use Rattle.reply.specs.Effect.{State, byCauses, takeReply}
 use Rattle.calls.specs.Calls.{stepOf}
-use Rattle.camac.specs.declared.modes.Answer.{Answer}
-use Rattle.camac.proofs.SlowestFalls.{slowestAnswer, Slowest, slowest-at}
+use Rattle.qmodes.specs.declared.modes.Answer.{Answer}
+use Rattle.qmodes.proofs.SlowestFalls.{slowestAnswer, Slowest, slowest-at}
 use Rattle.reply.specs.declared.records.Record.{Record}
 use Rattle.reply.specs.declared.replies.Reply.the-variants.{Answered}
 use Rattle.worst_count.specs.Slowest.{slowestAt, slowestReply}

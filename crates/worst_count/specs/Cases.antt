@@ -4,9 +4,9 @@ use mathlib.Core.Path.{_≡_}
 use mathlib.Core.Bool.{true, false}
 use mathlib.Core.List.{List, [], _∷_, _++_}
 use lib.ListN.{replicate}
-use Rattle.camac.specs.Scan.{positions, stations}
+use Rattle.qmodes.specs.Scan.{positions, stations}
 use Rattle.camac.specs.Words.{wordsOf, directionOf, positionOf, decodeOf}
-use Rattle.camac.specs.declared.modes.QMode.the-variants.{Stop, Ignore, Scan}
+use Rattle.qmodes.specs.declared.modes.QMode.the-variants.{Stop, Ignore, Scan}
 use Rattle.camac.specs.declared.words.Transfer.the-variants.{Single, Block}
 use Rattle.camac.specs.declared.words.Command.{Command}
 use Rattle.camac.specs.declared.words.Direction.{Direction}

@@ -4,9 +4,9 @@ use Prim.Native.Nat.{ℕ}
 use mathlib.Core.Bool.{Bool}
 use mathlib.Core.List.{List, [], _∷_}
 use Rattle.base.specs.Checks.{if_then_else_}
-use Rattle.camac.specs.declared.modes.QMode.{QMode}
+use Rattle.qmodes.specs.declared.modes.QMode.{QMode}
 use Rattle.reply.specs.declared.records.Record.{Record}
-use Rattle.camac.specs.Modes.{slowestQ}
+use Rattle.qmodes.specs.Modes.{slowestQ}
 
 -- whether the slowest answer at a record has Q = 1
 abbrev pub slowestAt : ℕ → QMode → Record → Bool

@@ -7,7 +7,7 @@ use lib.Dec.{leb, eqb}
 use lib.Bits.{bitAnd}
 use Rattle.base.specs.Checks.{allOf}
 use Rattle.camac.specs.Words.{qmodeOf, wordsOf, positionOf}
-use Rattle.camac.specs.Modes.{triesFit, positionFits, mostLeft}
+use Rattle.qmodes.specs.Modes.{triesFit, positionFits, mostLeft}
 use Rattle.camac.specs.declared.words.Command.{Command}
 use Rattle.packing.specs.declared.Marks.{Marks}
 use Rattle.walk.specs.model.Sums.{Below}

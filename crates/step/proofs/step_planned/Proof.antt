@@ -3,7 +3,7 @@ use borrow.Author.Needs.{needs}
 use mathlib.Core.Path.{_≡_, sym, ap, _∙_}
 use mathlib.Core.Bool.{true}
 use native.Mathlib.Omega.{arith}
-use Rattle.reply.specs.model.Here.{formedBy}
+use Rattle.reply.specs.model.Decoded.{formedBy}
 use Rattle.step.proofs.PlanLaws.{prepared-planned}
 use Rattle.step.proofs.Search.{unfit-by, alive-by}
 use Rattle.step.proofs.StepLaws.{took, yields, step-24, step-23, step-22, step-ready, step-going, step-asked, step-yields}

@@ -18,8 +18,8 @@ use Rattle.walk.proofs.Rest.{OnWalk}
 use Rattle.calls.specs.Calls.{noOperation, operationOf}
 use Rattle.reply.specs.declared.records.Record.{Record}
 use Rattle.calls.specs.declared.operations.Operation.{Operation}
-use Rattle.reply.specs.declared.take.Taken.{Taken}
-use Rattle.reply.specs.declared.take.Taken.the-variants.{Same, Through, Ended}
+use Rattle.take.specs.declared.Taken.{Taken}
+use Rattle.take.specs.declared.Taken.the-variants.{Same, Through, Ended}
 use Rattle.walk.specs.declared.visits.Spot.{Spot}
 
 -- what the plan of a list that passes 1 to 11 leaves

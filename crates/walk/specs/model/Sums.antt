@@ -16,7 +16,7 @@ use Rattle.base.specs.declared.Refusal.{Refusal}
 use Rattle.listfile.specs.declared.check.Sizes.{Sizes}
 use Rattle.walk.specs.Walk.{firstSpot, spotAfter, jumpTo, Visit, walkFrom}
 use Rattle.walk.specs.declared.visits.Spot.{Spot}
-use Rattle.camac.specs.Modes.{worstWords}
+use Rattle.qmodes.specs.Modes.{worstWords}
 use Rattle.walk.specs.Admission.{Plan, Prepared, unfit, ready, countsOf}
 use Rattle.walk.specs.declared.worst.Counts.{Counts}
 use Rattle.walk.specs.declared.visits.Turn.{Turn}

@@ -2,7 +2,7 @@
 use mathlib.Core.Path.{_∙_}
 use native.Mathlib.Omega.{arith}
 use borrow.Author.Needs.{needs}
-use Rattle.whole_run.specs.model.Visit.{recordAt}
+use Rattle.answers.specs.model.Visit.{recordAt}
 use Rattle.whole_run.specs.model.Along.{stopRecord}
 use Rattle.whole_run.proofs.record_of.Statement.{statement}
 use Rattle.whole_run.proofs.record_of.Tie as tie

@@ -8,7 +8,7 @@ use borrow.Author.Tests.{eqb-true, eqb-false}
 use lib.ListN.{length}
 use Rattle.walk.specs.model.Sums.{planBy}
 use Rattle.whole_run.specs.model.Row.{Moves}
-use Rattle.whole_run.proofs.RowLaws.{formed-start, formed-last}
+use Rattle.row.proofs.RowLaws.{formed-start, formed-last}
 use Rattle.whole_run.proofs.WordsAhead.{ahead}
 use Rattle.whole_run.proofs.Turns.{moves-none, moves-on, moves-as, moves-last, alive-here, grounds-at}
 use Rattle.whole_run.proofs.run_replies.Statement.{statement}

@@ -6,7 +6,7 @@ use lib.ListN.{length}
 use Rattle.step.proofs.PlanLaws.{going-start}
 use Rattle.step.proofs.StepLaws.{prepared-ready}
 use Rattle.step.specs.model.Onward.{PreparedFor}
-use Rattle.whole_run.specs.model.Words.{Answered, ReadAs}
+use Rattle.row.specs.model.Words.{Answered, ReadAs}
 use Rattle.whole_run.proofs.WholeRun.{whole-refused, grounds, whole-unformed, start-stage, whole-run}
 use Rattle.whole_run.proofs.Turns.{grounds-at}
 use Rattle.whole_run.proofs.run_row.Statement.{statement}

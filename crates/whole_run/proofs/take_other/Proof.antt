@@ -4,7 +4,7 @@ use mathlib.Core.Path.{refl}
 use native.Mathlib.Omega.{arith}
 use borrow.Author.Needs.{needs}
 use Rattle.step.proofs.PlanLaws.{askable}
-use Rattle.whole_run.proofs.RowLaws.{formed-here}
+use Rattle.row.proofs.RowLaws.{formed-here}
 use Rattle.whole_run.proofs.Turns.{ready, going, moves, decoded-as, no-other}
 use Rattle.whole_run.proofs.take_other.Statement.{statement}
 use Rattle.whole_run.proofs.take_other.Tie as tie

@@ -19,10 +19,10 @@ use Rattle.walk.specs.declared.visits.Spot.{Spot}
 use Rattle.walk.proofs.Rest.{OnWalk}
 use Rattle.reply.specs.Effect.{endedAt, withMarks, runOn, stateOf}
 use Rattle.reply.specs.declared.records.Record.{Record}
-use Rattle.whole_run.specs.model.Visit.{placeOf, recordAt}
+use Rattle.answers.specs.model.Visit.{placeOf, recordAt}
 use Rattle.whole_run.specs.declared.along.Reached.{Reached}
 use Rattle.whole_run.specs.declared.along.Stop.{Stop}
-use Rattle.whole_run.specs.declared.visit.Stay.{Stay}
+use Rattle.answers.specs.declared.Stay.{Stay}
 
 -- a spot of the walk, with room for the literals and words of the walk from there
 pub record Ahead (list : List ℕ) (count : ℕ) (k : Spot) (m : Marks) (b : List ℕ) : Type 0 where

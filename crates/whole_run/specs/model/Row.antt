@@ -12,12 +12,13 @@ use Rattle.camac.specs.declared.words.Command.{Command}
 use Rattle.listfile.specs.declared.check.Sizes.{Sizes}
 use Rattle.walk.specs.Admission.{Plan}
 use Rattle.walk.specs.declared.worst.Counts.{Counts}
-use Rattle.reply.specs.Replies.{replyOf, repliesIn, allFormed}
+use Rattle.reply.specs.Replies.{replyOf, repliesIn}
 use Rattle.reply.specs.Effect.{State, stateOf}
 use Rattle.calls.specs.Fit.{fits}
 use Rattle.calls.specs.Calls.{notRefused, takeAt, RunThrough}
 use Rattle.reply.specs.declared.replies.Reply.{Reply}
 use Rattle.reply.specs.declared.records.Record.{Record}
+use Rattle.row.specs.model.Words.{FormedFrom}
 use Rattle.step.specs.model.Onward.{PreparedFor}
 use Rattle.step.specs.model.Place.{Alive}
 
@@ -44,11 +45,6 @@ abbrev pub stoppedAt : ℕ → State → RunThrough
 stoppedAt at s = record { refusal = notRefused; taken = at / 8; state = s }
 
 -- What holds on the way --------------------------------------------------------------------------------------------------
-
--- the row from a place on has only replies
-pub record FormedFrom (row : List ℕ) (at : ℕ) : Type 0 where
-  pub formed : allFormed (repliesIn (drop at row)) ≡ true
-  pub within : at ≤ length row
 
 -- what admission leaves for a run whose incoming buffer has that length
 pub record Grounds (list table : List ℕ) (s : Sizes) (room : ℕ) : Type 0 where

@@ -9,7 +9,7 @@ use Rattle.calls.specs.Calls.{notRefused}
 use Rattle.calls.specs.declared.operations.Operation.{Operation}
 use Rattle.step.proofs.PlanLaws.{prepared-planned}
 use Rattle.step.proofs.Search.{unfit-by, alive-by}
-use Rattle.whole_run.specs.model.Words.{Answered, ReadAs}
+use Rattle.row.specs.model.Words.{Answered, ReadAs}
 use Rattle.whole_run.proofs.SeveralReplies.{steps-by, grounds-here, steps-24, steps-23, steps-22, last-asked, steps-taken}
 use Rattle.whole_run.proofs.several.steps_planned.Statement.{statement}
 use Rattle.whole_run.proofs.several.steps_planned.Tie as tie

@@ -1,0 +1,2 @@
+pub mod VisitRoom
+pub mod AnswerTurn

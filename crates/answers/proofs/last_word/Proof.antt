@@ -1,0 +1,47 @@
+-- `last_word` stores the word of a read; a write and a control store nothing.
+use Rattle.answers.proofs.VisitRoom.{read-one, words-left, bytes-one, bytes-by}
+use native.Mathlib.Omega.{arith}
+use mathlib.Core.Path.{refl}
+use borrow.Author.Needs.{needs}
+use Rattle.answers.proofs.last_word.Statement.{statement}
+use Rattle.answers.proofs.last_word.Tie as tie
+
+enum-told : tie.Need-enum-told
+enum-told c = search needs
+
+read-word-requires : tie.Need-read-word-requires
+read-word-requires c κs = let p = c .before .before .before .before .before .before .pre in (
+  read-one _ _ _ _ _ (p .0) (words-left _ _ _ _ _ (p .0) 1 (p .1)) (c .before .enum-told .given .1),
+  (omega (arith, p .1 .answered, p .0 .within), p .0 .row-formed),
+)
+
+enum-told-2 : tie.Need-enum-told-2
+enum-told-2 c = search needs
+
+enum-told-3 : tie.Need-enum-told-3
+enum-told-3 c = search needs
+
+same-length : tie.Need-same-length
+same-length c = search needs
+
+returns : tie.Need-returns
+returns c = bytes-one _ _ _ _ _ (c .before .before .before .before .enum-told .given .1) (c .before .before .read-word .ensures)
+
+returns-2 : tie.Need-returns-2
+returns-2 c = bytes-by _ _ _ _ 1 _ _ (c .enum-told2 .given .1) refl
+
+returns-3 : tie.Need-returns-3
+returns-3 c = bytes-by _ _ _ _ 1 _ _ (c .enum-told3 .given .1) refl
+
+pub last-word-spec : {M : Type 1} → statement M
+last-word-spec =
+    tie.close
+    (tie.spec
+    enum-told
+    read-word-requires
+    enum-told-2
+    enum-told-3
+    same-length
+    returns
+    returns-2
+    returns-3)

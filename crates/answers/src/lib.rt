@@ -1,0 +1,281 @@
+// The answers of one instruction: words, which move, and waits. Clean and flagged answers are judged alike, by a mask of flags; position, tries,
+// words left, marks and note follow from how many there are.
+use camac::Direction;
+use packing::Marks;
+use qmodes::QMode;
+use reply::Note;
+use row::is_word_at;
+use row::pass_words;
+use row::read_word;
+use row::read_words;
+ghost use mathlib.Core.Path.{_≡_};
+ghost use mathlib.Core.Bool.{true, false};
+ghost use Prim.Native.Nat.{ℕ, _+_, _*_, _%_, _^_, _<_, _≤_};
+ghost use lib.Bits.{bitAnd};
+ghost use lib.Dec.{eqb};
+ghost use lib.ListN.{length};
+ghost use Rattle.camac.specs.Words.{commandIn, directionOf};
+ghost use Rattle.qmodes.specs.model.Answers.{wordsAhead};
+ghost use Rattle.camac.specs.model.Bits.{Passes};
+ghost use Rattle.packing.specs.Packing.{markAfterWords};
+ghost use Rattle.row.specs.model.Words.{flagsAt};
+ghost use Rattle.answers.specs.model.Visit.{rulesOf, marksBehind, noteBehind, NoteRoom, afterWords, bytesAfter, afterWait, Words, Waits, Passed, Roomy};
+
+// What an instruction decides for its answers: how its words move, and the flags that make an answer a word or, where it is none, no cause.
+pub struct Rules {
+    pub q: QMode,
+    pub direction: Direction,
+    pub wide: bool,
+    pub word: u8,
+    pub ad: bool,
+}
+
+// Where a run stands at an instruction: replies taken, words left, tries, position as N * 16 + A, marks and note. No words left: it is
+// through. Operations are the replies taken, and status is what their flags gathered.
+pub struct Stay {
+    pub taken: usize,
+    pub left: usize,
+    pub tries: usize,
+    pub position: usize,
+    pub marks: Marks,
+    pub note: Note,
+}
+
+// Where the words go or come from, by the first longword.
+fn direction_in(first: u32) -> Direction
+    requires { ⌜ Passes first ⌝ }
+    ensures { λ r. ⌜ ((second : ℕ) → r ≡ directionOf (commandIn first second .transfer)) ⌝ }
+{
+    if camac::reads(first) {
+        return Direction::Incoming;
+    }
+    if camac::writes(first) {
+        return Direction::Outgoing;
+    }
+    Direction::Neither
+}
+
+pub fn rules_in(first: u32) -> Rules
+    requires { ⌜ Passes first ⌝ }
+    ensures { λ r. ⌜ ((second : ℕ) → r ≡ rulesOf (commandIn first second)) ⌝ }
+{
+    let q = camac::qmode_in(first);
+    let ad = camac::has_ad(first);
+    Rules {
+        q: q,
+        direction: direction_in(first),
+        wide: camac::is_wide(first),
+        word: qmodes::word_flags(q, ad),
+        ad: ad,
+    }
+}
+
+// The mark behind some words. Numbers are an admitted list's.
+fn mark_behind(wide: bool, words: usize, mark: usize) -> usize
+    requires { ⌜ (words ≤ 65536) × (mark ≤ 2 ^ 60) ⌝ }
+    ensures { λ r. ⌜ r ≡ markAfterWords wide words mark ⌝ }
+{
+    packing::mark_after_words(wide, base::u64_of_size(words), base::u64_of_size(mark)) as usize
+}
+
+fn marks_behind(rules: Rules, words: usize, m: Marks) -> Marks
+    requires { ⌜ (words ≤ 65536) × ((m .incoming ≤ 2 ^ 60) × (m .outgoing ≤ 2 ^ 60)) ⌝ }
+    ensures { λ r. ⌜ r ≡ marksBehind (rules .direction) (rules .wide) words m ⌝ }
+{
+    let direction = rules.direction;
+    match direction {
+        Direction::Incoming => Marks {
+            incoming: mark_behind(rules.wide, words, m.incoming),
+            outgoing: m.outgoing,
+        },
+        Direction::Outgoing => Marks {
+            incoming: m.incoming,
+            outgoing: mark_behind(rules.wide, words, m.outgoing),
+        },
+        Direction::Neither => m,
+    }
+}
+
+// The note of the last of some words, by the marks behind it.
+fn note_behind(rules: Rules, marks: Marks, note: Note) -> Note
+    requires { ⌜ NoteRoom (rules .direction) (rules .wide) marks ⌝ }
+    ensures { λ r. ⌜ r ≡ noteBehind (rules .direction) (rules .wide) marks note ⌝ }
+{
+    let width = packing::width_of(rules.wide);
+    let direction = rules.direction;
+    match direction {
+        Direction::Incoming => Note {
+            buffer: 0,
+            offset: marks.incoming - width,
+            size: width,
+        },
+        Direction::Outgoing => Note {
+            buffer: 1,
+            offset: marks.outgoing - width,
+            size: width,
+        },
+        Direction::Neither => note,
+    }
+}
+
+// Behind some words. Numbers are an admitted list's.
+fn after_words(rules: Rules, here: Stay, words: usize) -> Stay
+    requires { ⌜ (1 ≤ words) × ((words ≤ here .left) × ((here .left ≤ 65536) × ((here .taken < 2 ^ 61) × ((here .position < 65536)
+        × ((here .marks .incoming ≤ 2 ^ 60) × (here .marks .outgoing ≤ 2 ^ 60)))))) ⌝ }
+    ensures { λ s. ⌜ s ≡ afterWords rules words here ⌝ }
+{
+    let q = rules.q;
+    let before = here.marks;
+    let note = here.note;
+    let marks = marks_behind(rules, words, before);
+    Stay {
+        taken: here.taken + words,
+        left: here.left - words,
+        tries: 0,
+        position: qmodes::place_after_words(q, here.position, words),
+        marks: marks,
+        note: note_behind(rules, marks, note),
+    }
+}
+
+// The words from here on, whose first is known to be one: their number, up to `most`, each stored where it is read.
+fn words_from(
+    rules: Rules,
+    here: Stay,
+    most: usize,
+    incoming: &mut [u8],
+    row: &[u8],
+    answers: usize,
+) -> usize
+    requires { ⌜ Roomy rules (now row) answers here (now incoming) × Words rules (now row) answers here 1
+        × ((1 ≤ most) × ((most ≤ wordsAhead (rules .q) (here .position) (here .left)) × (here .taken + most ≤ answers))) ⌝ }
+    ensures { λ k. ⌜ Words rules (now (row .entry)) answers here k
+        × (now (incoming .exit) ≡ bytesAfter rules (now (row .entry)) k here (now (incoming .entry))) ⌝ }
+{
+    let direction = rules.direction;
+    let marks = here.marks;
+    match direction {
+        Direction::Incoming => read_words(
+            rules.wide,
+            incoming,
+            marks.incoming,
+            row,
+            here.taken,
+            most,
+            rules.word,
+        ),
+        Direction::Outgoing => pass_words(row, here.taken, most, rules.word),
+        Direction::Neither => pass_words(row, here.taken, most, rules.word),
+    }
+}
+
+// The one word left, stored where it is read.
+fn last_word(rules: Rules, here: Stay, incoming: &mut [u8], row: &[u8], answers: usize)
+    requires { ⌜ Roomy rules (now row) answers here (now incoming) × Words rules (now row) answers here 1 ⌝ }
+    ensures { λ r. ⌜ now (incoming .exit) ≡ bytesAfter rules (now (row .entry)) 1 here (now (incoming .entry)) ⌝ }
+{
+    let direction = rules.direction;
+    let marks = here.marks;
+    match direction {
+        Direction::Incoming => {
+            read_word(rules.wide, incoming, marks.incoming, row, here.taken);
+        }
+        Direction::Outgoing => {}
+        Direction::Neither => {}
+    }
+}
+
+// Whether the answer here, which is no word, is no cause either.
+fn is_wait(rules: Rules, limit: usize, here: Stay, row: &[u8], answers: usize) -> bool
+    requires { ⌜ (1 ≤ here .left) × ((here .taken + 1 ≤ answers) × ((answers * 8 ≤ length (now row)) × ((here .tries < 65536)
+        × (eqb (bitAnd (flagsAt (now row) (here .taken)) (rules .word)) (rules .word % 4) ≡ false)))) ⌝ }
+    ensures { λ b. ⌜ (b ≡ true → Waits rules limit (now (row .entry)) answers here) ⌝ }
+{
+    let q = rules.q;
+    if !is_word_at(row, here.taken, qmodes::wait_flags(q, rules.ad)) {
+        return false;
+    }
+    qmodes::can_wait(q, limit, here.tries, here.position)
+}
+
+fn after_wait(rules: Rules, here: Stay) -> Stay
+    requires { ⌜ (here .tries < 65536) × ((here .taken < 2 ^ 61) × (here .position < 65536)) ⌝ }
+    ensures { λ s. ⌜ s ≡ afterWait rules here ⌝ }
+{
+    let q = rules.q;
+    let marks = here.marks;
+    let note = here.note;
+    Stay {
+        taken: here.taken + 1,
+        left: here.left,
+        tries: qmodes::tries_after(q, false, here.tries),
+        position: qmodes::place_after_wait(q, here.position),
+        marks: marks,
+        note: note,
+    }
+}
+
+fn least(a: usize, b: usize) -> usize
+    ensures { λ r. ⌜ (r ≤ a) × ((r ≤ b) × (1 ≤ a → 1 ≤ b → 1 ≤ r)) ⌝ }
+{
+    if a < b { a } else { b }
+}
+
+// On over words and waits, until no word is left, the answers end or one of them is a cause.
+fn visit_on(
+    rules: Rules,
+    limit: usize,
+    from: Stay,
+    incoming: &mut [u8],
+    row: &[u8],
+    answers: usize,
+) -> Stay
+    requires { ⌜ (limit < 65536) × Roomy rules (now row) answers from (now incoming) ⌝ }
+    ensures { λ s. ⌜ Passed rules limit (now (row .entry)) answers from (now (incoming .entry)) s (now (incoming .exit)) ⌝ }
+{
+    let mut here = from;
+    while here.left != 0 {
+        if answers <= here.taken {
+            return here;
+        }
+        if is_word_at(row, here.taken, rules.word) {
+            let q = rules.q;
+            let ahead = qmodes::words_ahead(q, here.position, here.left);
+            let most = least(ahead, answers - here.taken);
+            if most == 0 {
+                return here;
+            }
+            let words = words_from(rules, here, most, incoming, row, answers);
+            here = after_words(rules, here, words);
+        } else {
+            if !is_wait(rules, limit, here, row, answers) {
+                return here;
+            }
+            here = after_wait(rules, here);
+        }
+    }
+    here
+}
+
+// The answers of an instruction from here on. A last word is taken without a loop.
+pub fn visit(
+    rules: Rules,
+    limit: usize,
+    from: Stay,
+    incoming: &mut [u8],
+    row: &[u8],
+    answers: usize,
+) -> Stay
+    requires { ⌜ (limit < 65536) × Roomy rules (now row) answers from (now incoming) ⌝ }
+    ensures { λ s. ⌜ Passed rules limit (now (row .entry)) answers from (now (incoming .entry)) s (now (incoming .exit)) ⌝ }
+{
+    if from.left == 1 {
+        if from.taken < answers {
+            if is_word_at(row, from.taken, rules.word) {
+                last_word(rules, from, incoming, row, answers);
+                return after_words(rules, from, 1);
+            }
+        }
+    }
+    visit_on(rules, limit, from, incoming, row, answers)
+}

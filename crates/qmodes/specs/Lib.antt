@@ -1,0 +1,4 @@
+pub mod Scan
+pub mod Modes
+pub mod Ends
+pub mod model

@@ -1,0 +1,7 @@
+pub mod RowLaws
+pub mod WordLaws
+pub mod Tried
+pub mod BitLaws
+pub mod ReadLaws
+pub mod GatherLaws
+pub mod Flags

@@ -1,0 +1,243 @@
+-- Words of a row: what a formed row says of each reply, and the words read in the incoming buffer. A pad can come before the first word only, so
+-- the k-th word lies k widths behind the first, and the bytes of a word are those of its answer.
+use Prim.Native.Nat.{ℕ, zero, suc, _+_, _*_, _/_, _%_, _≤_, _<_}
+use mathlib.Core.Path.{_≡_, refl, sym, ap, _∙_, subst}
+use mathlib.Core.Bool.{Bool, true, false, _&&_}
+use mathlib.Core.List.{List}
+use mathlib.Core.Option.{some}
+use native.Mathlib.Omega.{arith}
+use native.Mathlib.Numerals.{add-one, add-two}
+use native.Mathlib.Nat.{add-zero}
+use borrow.Author.Count.{below-more}
+use borrow.Author.Tests.{eq-eqb, ne-eqb, eqb-true, eqb-false, ltb-true}
+use lib.Bits.{bitAnd}
+use lib.Dec.{eqb, ltb}
+use lib.ListN.{length, getD, take, drop, replicate}
+use lib.Seq.{sets}
+use Rattle.base.specs.Bytes.{byteAt, shortBytes, longBytes}
+use Rattle.base.proofs.Bools.{and-left, and-right}
+use Rattle.base.proofs.Tests.{on, true-not-false}
+use Rattle.packing.specs.Packing.{padAt, alignedMark, widthOf, markAfter, markAfterWords, stored}
+use Rattle.packing.proofs.MarkFacts.{words-closed, stored-length}
+use Rattle.reply.specs.Replies.{hasForm, replyOf, isFormed, repliesIn, allFormed}
+use Rattle.reply.specs.Effect.{longwordOf}
+use Rattle.reply.specs.declared.replies.Reply.the-variants.{Answered}
+use Rattle.reply.proofs.ReplyFacts.{piece-byte, piece-first, answer-read, formed-has-form, reply-answer}
+use Rattle.row.specs.model.Words.{FormedFrom, longwordIn, flagsAt, WordsAt, wordsStored, answerBy}
+use Rattle.row.proofs.RowLaws.{formed-here, formed-start}
+
+-- A formed row -----------------------------------------------------------------------------------------------------------
+
+abbrev Form : List ℕ → Type 0
+Form bytes = (ltb (byteAt bytes 1) 64 ≡ true) × (eqb (byteAt bytes 7) 0 ≡ true)
+
+-- of the tests of the form, the second and the fifth
+parts : (a b c d e f : Bool) → a && (b && (c && (d && (e && f)))) ≡ true → (b ≡ true) × (e ≡ true)
+parts a b c d e f h =
+    let rest = and-right a _ h in (and-left b _ rest, and-left e f (and-right d _ (and-right c _ (and-right b _ rest))))
+
+module _ (row : List ℕ) (formed : allFormed (repliesIn row) ≡ true) where
+  -- it is formed from each of its replies on
+  pub formed-from : (j : ℕ) → j * 8 ≤ length row → FormedFrom row (j * 8)
+  formed-from zero h = formed-start row formed
+  formed-from (suc j) h =
+      subst (FormedFrom row) (omega arith) (formed-here row (j * 8) (formed-from j (omega arith)) (omega arith) .behind)
+
+  module _ (j : ℕ) (within : j * 8 < length row) where
+    pub reply-formed : isFormed (take 8 (drop (j * 8) row)) ≡ true
+    reply-formed = formed-here row (j * 8) (formed-from j (omega arith)) within .formed
+
+    pub reply-eight : j * 8 + 8 ≤ length row
+    reply-eight = formed-here row (j * 8) (formed-from j (omega arith)) within .eight
+
+    byte : (i : ℕ) → i < 8 → byteAt (take 8 (drop (j * 8) row)) i ≡ getD row (j * 8 + i) 0
+    byte i h = piece-byte row (j * 8) i h
+
+    form : Form (take 8 (drop (j * 8) row))
+    unfolding hasForm
+    form =
+        let bytes : List ℕ = take 8 (drop (j * 8) row) in
+        parts (eqb (length bytes) 8) (ltb (byteAt bytes 1) 64) (eqb (byteAt bytes 2) 0) (eqb (byteAt bytes 3) 0) (eqb (byteAt bytes 7) 0) _
+        (formed-has-form bytes reply-formed)
+
+    pub reply-flags : flagsAt row j < 64
+    reply-flags = subst (λ (f : ℕ). f < 64) (byte 1 (omega arith)) (ltb-true _ 64 (form .0))
+
+    pub reply-top : getD row (j * 8 + 7) 0 ≡ 0
+    reply-top = sym (byte 7 (omega arith)) ∙ eqb-true _ 0 (form .1)
+
+    -- a reply of kind 0 is the answer with its flags, and its longword is what it is stored as
+    abbrev pub dataAt : ℕ
+    dataAt = getD row (j * 8 + 4) 0 + getD row (j * 8 + 5) 0 * 256 + getD row (j * 8 + 6) 0 * 65536
+
+    pub reply-answered : getD row (j * 8) 0 ≡ 0 → replyOf (take 8 (drop (j * 8) row)) ≡ some (Answered (answerBy (flagsAt row j) dataAt))
+    reply-answered e =
+        reply-answer (take 8 (drop (j * 8) row)) reply-formed (piece-first row (j * 8) ∙ e) _
+        (answer-read (take 8 (drop (j * 8) row)) _ _ _ _ (sym (byte 1 (omega arith))) (sym (byte 4 (omega arith))) (sym (byte 5 (omega arith)))
+        (sym (byte 6 (omega arith))))
+
+    pub reply-longword : longwordOf (Answered (answerBy (flagsAt row j) dataAt)) ≡ longwordIn row (j * 8)
+    unfolding longwordIn
+    reply-longword = refl
+
+-- Words by a mask --------------------------------------------------------------------------------------------------------
+
+module _ (mask : ℕ) (row : List ℕ) (from : ℕ) where
+  pub words-fewer : (j k : ℕ) → j ≤ k → WordsAt mask row from k → WordsAt mask row from j
+  words-fewer j k h words i l = words i (omega arith)
+
+  pub words-none : WordsAt mask row from 0
+  words-none i l = absurd (omega arith)
+
+  pub words-more : (k : ℕ) → WordsAt mask row from k → eqb (bitAnd (flagsAt row (from + k)) mask) (mask % 4) ≡ true → WordsAt mask row from (k + 1)
+  words-more k words e = below-more (λ (j : ℕ). bitAnd (flagsAt row (from + j)) mask ≡ mask % 4) k words (eqb-true _ _ e)
+
+  -- where the first is a word, the first that is none comes behind it
+  pub first-passed : (k : ℕ) → eqb (bitAnd (flagsAt row (from + k)) mask) (mask % 4) ≡ false
+      → eqb (bitAnd (flagsAt row from) mask) (mask % 4) ≡ true → 1 ≤ k
+  first-passed zero n e = absurd (true-not-false (sym e ∙ subst (λ (i : ℕ). eqb (bitAnd (flagsAt row i) mask) (mask % 4) ≡ false) (add-zero from) n))
+  first-passed (suc k) n e = omega arith
+
+  pub first-word : WordsAt mask row from 1 → eqb (bitAnd (flagsAt row from) mask) (mask % 4) ≡ true
+  first-word words = eq-eqb _ _ (subst (λ (i : ℕ). bitAnd (flagsAt row i) mask ≡ mask % 4) (add-zero from) (words 0 (omega arith)))
+
+-- The bytes of an answer's longword ---------------------------------------------------------------------------------------
+
+pub record Bytes (x y z v : ℕ) : Type 0 where
+  pub first : v % 256 ≡ x
+  pub second : v / 256 % 256 ≡ y
+  pub third : v / 65536 % 256 ≡ z
+  pub fourth : v / 16777216 % 256 ≡ 0
+
+-- three bytes as a longword, and back
+bytes : (x y z : ℕ) → x < 256 → y < 256 → z < 256 → Bytes x y z ((x + y * 256 + z * 65536) % 16777216)
+bytes x y z hx hy hz =
+    let same : (x + y * 256 + z * 65536) % 16777216 ≡ x + y * 256 + z * 65536 = omega arith in
+    let one : (x + y * 256 + z * 65536) / 256 ≡ y + z * 256 = omega arith in
+    let two : (x + y * 256 + z * 65536) / 65536 ≡ z = omega arith in
+    let three : (x + y * 256 + z * 65536) / 16777216 ≡ 0 = omega arith in
+    record {
+      first = rw same (omega arith);
+      second = rw (same, one) (omega arith);
+      third = rw (same, two) (omega arith);
+      fourth = rw (same, three) refl;
+    }
+
+pub longword-bytes : (row : List ℕ) (at : ℕ) → getD row (at + 4) 0 < 256 → getD row (at + 5) 0 < 256 → getD row (at + 6) 0 < 256
+    → Bytes (getD row (at + 4) 0) (getD row (at + 5) 0) (getD row (at + 6) 0) (longwordIn row at)
+unfolding longwordIn
+longword-bytes row at low middle high = bytes _ _ _ low middle high
+
+-- Marks ------------------------------------------------------------------------------------------------------------------
+
+pub narrow-mark : (k mark : ℕ) → markAfterWords false k mark ≡ mark + k * 2
+unfolding markAfterWords padAt widthOf
+narrow-mark zero mark = omega arith
+narrow-mark (suc k) mark = words-closed false k mark ∙ omega arith
+
+module _ (mark : ℕ) where
+  pub pad-two : mark % 4 ≡ 2 → padAt true mark ≡ 2
+  unfolding padAt
+  pad-two h = rw (eq-eqb (mark % 4) 2 h)
+
+  pub pad-none : ¬ (mark % 4 ≡ 2) → padAt true mark ≡ 0
+  unfolding padAt
+  pad-none h = rw (ne-eqb (mark % 4) 2 h)
+
+  pub aligned-two : mark % 4 ≡ 2 → alignedMark true mark ≡ mark + 2
+  unfolding alignedMark
+  aligned-two h = rw (pad-two h)
+
+  pub aligned-none : ¬ (mark % 4 ≡ 2) → alignedMark true mark ≡ mark
+  unfolding alignedMark
+  aligned-none h = rw (pad-none h) (add-zero mark)
+
+wide-mark : (k mark : ℕ) → ¬ (mark % 4 ≡ 2) → markAfterWords true k mark ≡ mark + k * 4
+unfolding markAfterWords widthOf
+wide-mark zero mark h = omega arith
+wide-mark (suc k) mark h =
+    words-closed true k mark ∙ ap (λ (pad : ℕ). mark + pad + suc k * 4) (pad-none mark h) ∙ omega arith
+
+-- behind its pad a word is aligned
+pub aligned-right : (mark : ℕ) → ¬ (alignedMark true mark % 4 ≡ 2)
+unfolding alignedMark padAt
+aligned-right mark =
+    on (eqb (mark % 4) 2)
+    (λ e. let h : mark % 4 ≡ 2 = eqb-true (mark % 4) 2 e in rw e (λ g. omega arith))
+    (λ e. let h : ¬ (mark % 4 ≡ 2) = eqb-false (mark % 4) 2 e in rw e (λ g. omega arith))
+
+pub aligned-words : (k mark : ℕ) → 1 ≤ k → markAfterWords true k mark ≡ alignedMark true mark + k * 4
+unfolding alignedMark widthOf
+aligned-words zero mark h = absurd (omega arith)
+aligned-words (suc k) mark h = words-closed true k mark
+
+pub narrow-room : (mark : ℕ) → markAfter false mark ≡ mark + 2
+unfolding markAfter alignedMark padAt widthOf
+narrow-room mark = omega arith
+
+pub wide-room : (mark : ℕ) → markAfter true mark ≡ alignedMark true mark + 4
+unfolding markAfter widthOf
+wide-room mark = refl
+
+-- Words stored -----------------------------------------------------------------------------------------------------------
+
+pub stored-narrow : (v mark : ℕ) (buffer : List ℕ) → stored false v mark buffer ≡ sets buffer mark (shortBytes v)
+unfolding stored padAt
+stored-narrow v mark buffer = refl
+
+-- the pad, then the word behind it
+pub stored-wide : (v mark : ℕ) (buffer : List ℕ)
+    → stored true v mark buffer ≡ sets (sets buffer mark (replicate (padAt true mark) 0)) (alignedMark true mark) (longBytes v)
+unfolding stored alignedMark padAt
+stored-wide v mark buffer = on (eqb (mark % 4) 2) (λ e. rw (e, add-two)) (λ e. rw (e, add-zero))
+
+stored-bare : (v mark : ℕ) (buffer : List ℕ) → ¬ (mark % 4 ≡ 2) → stored true v mark buffer ≡ sets buffer mark (longBytes v)
+unfolding stored
+stored-bare v mark buffer h = rw (pad-none mark h)
+
+module _ (row : List ℕ) (from mark : ℕ) where
+  pub stored-none : (wide : Bool) (buffer : List ℕ) → buffer ≡ wordsStored wide row from mark 0 buffer
+  unfolding wordsStored
+  stored-none wide buffer = refl
+
+  pub stored-more : (wide : Bool) (k : ℕ) (buffer : List ℕ)
+      → wordsStored wide row from mark (suc k) buffer
+      ≡ stored wide (longwordIn row ((from + k) * 8)) (markAfterWords wide k mark) (wordsStored wide row from mark k buffer)
+  unfolding wordsStored
+  stored-more wide k buffer = refl
+
+  pub words-length : (wide : Bool) (k : ℕ) (buffer : List ℕ) → length (wordsStored wide row from mark k buffer) ≡ length buffer
+  unfolding wordsStored
+  words-length wide zero buffer = refl
+  words-length wide (suc k) buffer = stored-length wide _ _ (wordsStored wide row from mark k buffer) ∙ words-length wide k buffer
+
+  -- one turn of the loops
+  pub narrow-more : (k : ℕ) (before now : List ℕ) → now ≡ wordsStored false row from mark k before
+      → sets now (mark + k * 2) (shortBytes (longwordIn row ((from + k) * 8))) ≡ wordsStored false row from mark (k + 1) before
+  narrow-more k before now e =
+      rw (add-one k, stored-more false k before, ← e, narrow-mark k mark) (sym (stored-narrow _ (mark + k * 2) now))
+
+  pub wide-more : ¬ (mark % 4 ≡ 2) → (k : ℕ) (before now : List ℕ) → now ≡ wordsStored true row from mark k before
+      → sets now (mark + k * 4) (longBytes (longwordIn row ((from + k) * 8))) ≡ wordsStored true row from mark (k + 1) before
+  wide-more h k before now e =
+      rw (add-one k, stored-more true k before, ← e, wide-mark k mark h) (sym (stored-bare _ (mark + k * 4) now (λ z. h (omega arith))))
+
+first-stored : (row : List ℕ) (from mark : ℕ) (buffer : List ℕ)
+    → wordsStored true row from mark 1 buffer ≡ stored true (longwordIn row ((from + 0) * 8)) mark buffer
+unfolding wordsStored markAfterWords
+first-stored row from mark buffer = refl
+
+-- words behind a pad that is written first
+pub padded-words : (row : List ℕ) (from mark k : ℕ) (buffer : List ℕ) → 1 ≤ k
+    → wordsStored true row from (alignedMark true mark) k (sets buffer mark (replicate (padAt true mark) 0))
+    ≡ wordsStored true row from mark k buffer
+padded-words row from mark zero buffer h = absurd (omega arith)
+padded-words row from mark (suc zero) buffer h =
+    first-stored row from (alignedMark true mark) _
+    ∙ stored-bare _ (alignedMark true mark) _ (aligned-right mark)
+    ∙ sym (first-stored row from mark buffer ∙ stored-wide _ mark buffer)
+padded-words row from mark (suc (suc k)) buffer h =
+    let same : markAfterWords true (suc k) (alignedMark true mark) ≡ markAfterWords true (suc k) mark =
+    wide-mark (suc k) (alignedMark true mark) (aligned-right mark) ∙ sym (aligned-words (suc k) mark (omega arith)) in
+    stored-more row from (alignedMark true mark) true (suc k) _
+    ∙ rw (same, padded-words row from mark (suc k) buffer (omega arith)) (sym (stored-more row from mark true (suc k) buffer))

@@ -1,0 +1,77 @@
+-- `read_words` pads, then reads: behind the pad the words lie where they lie with it, and at least one is read, since the first is a word.
+use borrow.Author.Needs.{needs}
+use mathlib.Core.Path.{_∙_}
+use native.Mathlib.Omega.{arith}
+use Rattle.row.proofs.WordLaws.{first-word, aligned-right, aligned-words, narrow-mark, padded-words}
+use Rattle.row.proofs.words.read_words.Statement.{statement}
+use Rattle.row.proofs.words.read_words.Tie as tie
+
+pad-requires : tie.Need-pad-requires
+pad-requires c κs =
+    let start = c .before .before .before .before in
+    omega (arith, aligned-words (start .args .most) (start .args .mark) (start .pre .0), rw (c .before .if1 .taken) at (start .pre .1 .1 .0))
+
+read-wide-requires : tie.Need-read-wide-requires
+read-wide-requires c κs =
+    let at-pad = c .before .before .before in
+    let at-if1 = at-pad .before .before in
+    let start = at-if1 .before .before .before in
+    let room = rw (at-if1 .if1 .taken) at (start .pre .1 .1 .0) in (
+      start .pre .1 .0,
+      (
+        omega (arith, aligned-words (start .args .most) (start .args .mark) (start .pre .0), room, at-pad .pad .ensures .0, at-pad .pad .kept .0),
+        (rw (at-pad .pad .ensures .0) (aligned-right (start .args .mark)), start .pre .1 .1 .1 .0),
+      ),
+    )
+
+same-length : tie.Need-same-length
+same-length c = search needs
+
+returns : tie.Need-returns
+returns c =
+    let e = c .before .before .read-wide .ensures in
+    let at-pad = c .before .before .before .before .before .before in
+    let at-if1 = at-pad .before .before in
+    let start = at-if1 .before .before .before in
+    let a = start .args in
+    let some = e .1 .1 .0 (start .pre .0) (first-word (a .mask) (a .row .now) (a .from) (start .pre .1 .1 .1 .1)) in (
+      some,
+      (
+        e .0,
+        (
+          e .1 .0,
+          e .1 .1 .1
+              ∙ rw (at-pad .pad .ensures .0, at-pad .pad .ensures .1, at-if1 .if1 .taken) (padded-words (a .row .now) (a .from) (a .mark) _ (a .incoming .now) some),
+        ),
+      ),
+    )
+
+read-narrow-requires : tie.Need-read-narrow-requires
+read-narrow-requires c κs =
+    let start = c .before .before .before .before in
+    let room = rw (c .before .if1 .left) at (start .pre .1 .1 .0) in
+    (start .pre .1 .0, omega (arith, narrow-mark (start .args .most) (start .args .mark), room))
+
+same-length-2 : tie.Need-same-length-2
+same-length-2 c = search needs
+
+returns-2 : tie.Need-returns-2
+returns-2 c =
+    let e = c .before .before .read-narrow .ensures in
+    let at-if1 = c .before .before .before .before in
+    let start = at-if1 .before .before .before in
+    let a = start .args in
+    let some = e .1 .1 .0 (start .pre .0) (first-word (a .mask) (a .row .now) (a .from) (start .pre .1 .1 .1 .1)) in
+    (some, (e .0, (e .1 .0, e .1 .1 .1 ∙ rw (at-if1 .if1 .left))))
+
+pub read-words-spec : {M : Type 1} → statement M
+read-words-spec =
+    tie.close
+    (tie.spec
+    pad-requires
+    read-wide-requires
+    same-length
+    returns
+    read-narrow-requires
+    same-length-2
+    returns-2)

@@ -1,0 +1,84 @@
+-- The room for a word and its bytes, by the direction of its instruction; a counted reply leaves the marks; a word moves at the end by the code.
+use Prim.Native.Nat.{ℕ, _^_, _≤_, _<_}
+use mathlib.Core.Path.{_≡_, refl, sym, ap, _∙_, subst}
+use mathlib.Core.Bool.{Bool, false, and-true, and-false}
+use borrow.Author.Tests.{ne-eqb}
+use mathlib.Core.List.{List}
+use native.Mathlib.Omega.{arith}
+use Rattle.camac.specs.Words.{directionOf, qmodeOf}
+use Rattle.camac.specs.declared.words.Command.{Command}
+use Rattle.camac.specs.declared.words.Direction.{Direction}
+use Rattle.camac.specs.declared.words.Direction.the-variants.{Incoming, Outgoing, Neither}
+use Rattle.packing.specs.Packing.{markAfter, stored}
+use Rattle.packing.specs.declared.Marks.{Marks}
+use Rattle.packing.proofs.MarkFacts.{mark-grows}
+use Rattle.walk.specs.Walk.{movedBy, moved}
+use Rattle.reply.specs.Causes.{doneBy, codeOf}
+use Rattle.reply.specs.Effect.{movedBytes, counted}
+use Rattle.take.specs.model.Here.{incomingAfter, movesAtEnd}
+use Rattle.reply.specs.declared.replies.Reply.{Reply}
+use Rattle.reply.specs.declared.records.Record.{Record}
+use Rattle.reply.proofs.CodeCases.{only-nine}
+
+-- Marks and room ---------------------------------------------------------------------------------------------------------
+
+pub by-mark :
+    (d : Direction) (wide : Bool) (m : Marks)
+    → movedBy d wide m .incoming ≡ movedBy d wide (record { incoming = m .incoming; outgoing = 0 }) .incoming
+by-mark Incoming wide m = refl
+by-mark Outgoing wide m = refl
+by-mark Neither wide m = refl
+
+grows : (d : Direction) (wide : Bool) (m : Marks) → m .incoming ≤ movedBy d wide m .incoming
+grows Incoming wide m = mark-grows wide (m .incoming)
+grows Outgoing wide m = omega arith
+grows Neither wide m = omega arith
+
+pub room-after : (c : Command) (m : Marks) (n : ℕ) → moved c m .incoming ≤ n → incomingAfter c (m .incoming) ≤ n
+unfolding moved incomingAfter
+room-after c m n h = omega (arith, by-mark (directionOf (c .transfer)) (c .wide) m)
+
+pub mark-within : (c : Command) (m : Marks) (n : ℕ) → moved c m .incoming ≤ n → m .incoming ≤ n
+unfolding moved
+mark-within c m n h = omega (arith, grows (directionOf (c .transfer)) (c .wide) m)
+
+module _ (c : Command) (d : Direction) (ed : d ≡ directionOf (c .transfer)) where
+  pub room-incoming : (mark n : ℕ) → d ≡ Incoming → incomingAfter c mark ≤ n → markAfter (c .wide) mark ≤ n
+  unfolding incomingAfter moved
+  room-incoming mark n e h =
+      subst (λ (x : Direction). movedBy x (c .wide) (record { incoming = mark; outgoing = 0 }) .incoming ≤ n) (sym ed ∙ e) h
+
+  module _ (word mark : ℕ) (buffer : List ℕ) where
+    pub stored-incoming :
+        (x : List ℕ) → d ≡ Incoming → x ≡ stored (c .wide) word mark buffer → x ≡ movedBytes c word mark buffer
+    unfolding movedBytes
+    stored-incoming x e h = h ∙ rw (← ed, e)
+
+    pub stored-outgoing : d ≡ Outgoing → buffer ≡ movedBytes c word mark buffer
+    unfolding movedBytes
+    stored-outgoing e = rw (← ed, e)
+
+    pub stored-neither : d ≡ Neither → buffer ≡ movedBytes c word mark buffer
+    unfolding movedBytes
+    stored-neither e = rw (← ed, e)
+
+pub counted-marks : (limit : ℕ) (c : Command) (reply : Reply) (r a : Record) → a ≡ counted limit c reply r → a .marks ≡ r .marks
+unfolding counted
+counted-marks limit c reply r a e = ap (λ (x : Record). x .marks) e
+
+-- marks with room for a word in a buffer are below 2^63, as the buffer's length is
+pub marks-small : (c : Command) (m a : Marks) (n : ℕ) → a ≡ m → moved c m .incoming ≤ n → n < 2 ^ 63 → m .outgoing < 2 ^ 63
+    → (a .incoming < 2 ^ 63) × (a .outgoing < 2 ^ 63)
+marks-small c m a n e h k o =
+    (omega (arith, ap (λ (x : Marks). x .incoming) e, mark-within c m n h), omega (arith, ap (λ (x : Marks). x .outgoing) e))
+
+-- The word of a reply that ends the run ----------------------------------------------------------------------------------
+
+module _ (limit : ℕ) (c : Command) (reply : Reply) (r : Record) (code : ℕ) (e : code ≡ codeOf limit c r reply) where
+  pub moves-nine : code ≡ 9 → doneBy (qmodeOf (c .transfer)) reply ≡ movesAtEnd limit c reply r
+  unfolding movesAtEnd
+  moves-nine h = rw (only-nine limit c r reply, ← e, h) (sym (and-true (doneBy (qmodeOf (c .transfer)) reply)))
+
+  pub moves-none : ¬ (code ≡ 9) → false ≡ movesAtEnd limit c reply r
+  unfolding movesAtEnd
+  moves-none h = rw (only-nine limit c r reply, ← e, ne-eqb code 9 h) (sym (and-false (doneBy (qmodeOf (c .transfer)) reply)))

@@ -1,0 +1,3 @@
+pub mod HereCases
+pub mod TakeHere
+pub mod Onward
