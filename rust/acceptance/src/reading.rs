@@ -248,7 +248,7 @@ mod tests {
     #[test]
     fn names_of_this_repository() {
         let root = crate::repository::root();
-        let right = "`camac/specs/Words:wordsOf` `camac/src/words:decode` `.ci/run` `camac/src/scan:ScanPosition::after_done`";
+        let right = "`camac/specs/Words:wordsOf` `camac/src/words:decode` `.ci/run` `qmodes/src/scan:ScanPosition::after_done`";
         assert_eq!(name_faults(&root, right), Vec::<String>::new());
         let wrong =
             "`camac/specs/Words:noSuchName`\n`camac/specs/NoSuchFile:x`\n`docs/no-such-file.md`";

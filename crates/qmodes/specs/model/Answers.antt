@@ -1,5 +1,5 @@
 -- What each Q-mode makes of an answer by its flags, and of a position as one number, N × 16 + A: for code that passes many answers at once.
--- Nothing here is a rule of document 01: the laws of whole_run/proofs/Flags hold it against specs/Modes over all flags.
+-- Nothing here is a rule of document 01: the laws of row/proofs/Flags hold it against specs/Modes over all flags.
 use Prim.Native.Nat.{ℕ, _+_, _-_, _*_, _/_}
 use mathlib.Core.Bool.{Bool, true, false}
 use lib.Dec.{ltb}
