@@ -1,6 +1,6 @@
 -- A row of bytes stored from a place on, of any length: each byte of it is read there, and every other byte stays. So a number that was put
 -- is the number that is read.
-use Prim.Native.Nat.{ℕ, zero, suc, _+_, _*_, _/_, _%_, _≤_, _<_}
+use Prim.Native.Nat.{ℕ, zero, suc, _+_, _*_, _/_, _%_, _^_, _≤_, _<_}
 use mathlib.Core.Path.{_≡_, refl, _∙_}
 use mathlib.Core.List.{List, [], _∷_}
 use native.Mathlib.Omega.{arith}
@@ -51,7 +51,7 @@ module _ (l : List ℕ) (i v : ℕ) where
       )
       (long-sum v b)
 
-  pub quad-put : i + 8 ≤ length l → v < 18446744073709551616 → quadAt (sets l i (quadBytes v)) i ≡ v
+  pub quad-put : i + 8 ≤ length l → v < 2 ^ 64 → quadAt (sets l i (quadBytes v)) i ≡ v
   quad-put h b =
       let at = sets-at l i (quadBytes v) h in
       rw (

@@ -4,7 +4,7 @@ use crate::numbers::u32_of;
 use crate::numbers::u64_of;
 use crate::numbers::usize_of;
 ghost use mathlib.Core.Path.{_≡_};
-ghost use Prim.Native.Nat.{_+_, _*_, _≤_, _<_};
+ghost use Prim.Native.Nat.{_+_, _*_, _^_, _≤_, _<_};
 ghost use lib.ListN.{length, getD};
 ghost use lib.Seq.{sets};
 ghost use Rattle.base.specs.Bytes.{shortAt, longAt, quadAt, shortBytes, longBytes, quadBytes};
@@ -49,7 +49,7 @@ pub fn whole_at(bytes: &[u8], i: usize) -> u32
 
 // Four bytes. A place in a list is below 2^63, and a longword lies at most seven bytes on.
 pub fn long_at(bytes: &[u8], i: usize) -> u32
-    requires { ⌜ i < 9223372036854775816 ⌝ }
+    requires { ⌜ i < 2 ^ 63 + 8 ⌝ }
     ensures { λ r. ⌜ r ≡ longAt (now (bytes .entry)) i ⌝ }
 {
     if i + 4 <= bytes.len() {

@@ -12,6 +12,13 @@ pub use operations::no_operation;
 pub use operations::operation_of;
 use reply::Record;
 
+// The refusals of whoever drives a run.
+pub const ENDED: u8 = 24;
+
+pub const UNFIT: u8 = 23;
+
+pub const NOT_FORMED: u8 = 22;
+
 // What start and step yield beside the buffers.
 pub struct Yield {
     pub refusal: Refusal,

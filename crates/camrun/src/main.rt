@@ -1,6 +1,7 @@
 // camrun: admits run.lst, runs it over the replies of run.rep with the outgoing words of run.out, and prints what happened. Each file is
 // read up to 65,536 bytes; a missing one is empty. The incoming buffer is 65,536 zero bytes.
 use base::Refusal;
+use calls::NOT_FORMED;
 use calls::Operation;
 use calls::Yield;
 use reply::Record;
@@ -13,9 +14,6 @@ ghost use Rattle.reply.specs.Effect.{stateOf};
 
 // The bytes of the incoming buffer.
 const INCOMING: usize = 65536;
-
-// The refusal of replies that are not formed.
-const NOT_FORMED: u8 = 22;
 
 fn main() {
     let mut list = io::large_buffer();

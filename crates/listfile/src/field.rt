@@ -2,7 +2,7 @@
 use camac::Command;
 use camac::Decoded;
 ghost use mathlib.Core.Path.{_≡_};
-ghost use Prim.Native.Nat.{_<_, _≤_};
+ghost use Prim.Native.Nat.{_^_, _<_, _≤_};
 ghost use lib.ListN.{length};
 ghost use lib.Dec.{leb, eqb};
 ghost use mathlib.Core.Bool.{_||_};
@@ -53,7 +53,7 @@ fn tag_at(list: &[u8], at: usize) -> Tag
 
 // The place behind the field at a place. A place is below 2^63: it counts bytes of a list.
 pub(crate) fn next_place(list: &[u8], at: usize) -> usize
-    requires { ⌜ at < 9223372036854775808 ⌝ }
+    requires { ⌜ at < 2 ^ 63 ⌝ }
     ensures { λ r. ⌜ r ≡ nextField (now (list .entry)) at ⌝ }
 {
     at + 3 + base::short_at(list, at + 1)
@@ -81,7 +81,7 @@ pub(crate) fn is_past(list: &[u8], at: usize) -> bool
 
 // The second longword, 0 where the field has none. A place is below 2^63.
 fn second_at(list: &[u8], at: usize) -> u32
-    requires { ⌜ at < 9223372036854775808 ⌝ }
+    requires { ⌜ at < 2 ^ 63 ⌝ }
     ensures { λ r. ⌜ r ≡ secondAt (now (list .entry)) at ⌝ }
 {
     if base::short_at(list, at + 1) == 8 {

@@ -1,6 +1,6 @@
 // Packing: fill marks, and the bytes of words and literals in the host's buffers.
 ghost use mathlib.Core.Path.{_≡_};
-ghost use Prim.Native.Nat.{_+_, _%_, _<_, _≤_};
+ghost use Prim.Native.Nat.{_+_, _%_, _^_, _<_, _≤_};
 ghost use lib.ListN.{length};
 ghost use Rattle.packing.specs.Packing.{padAt, alignedMark, widthOf, markAfter, markAfterWords, stored, wordAt};
 
@@ -30,7 +30,7 @@ pub fn width_of(wide: bool) -> usize
 
 // Where a word goes, behind its pad. Every mark is below 2^63: it counts bytes of a buffer.
 pub fn aligned_mark(wide: bool, mark: usize) -> usize
-    requires { ⌜ mark < 9223372036854775808 ⌝ }
+    requires { ⌜ mark < 2 ^ 63 ⌝ }
     ensures { λ r. ⌜ (r ≡ alignedMark wide mark) × (r ≤ mark + 2) ⌝ }
 {
     mark + pad_at(wide, mark)
@@ -38,7 +38,7 @@ pub fn aligned_mark(wide: bool, mark: usize) -> usize
 
 // The mark after one word. Every mark is below 2^63: it counts bytes of a buffer.
 pub fn mark_after(wide: bool, mark: usize) -> usize
-    requires { ⌜ mark < 9223372036854775808 ⌝ }
+    requires { ⌜ mark < 2 ^ 63 ⌝ }
     ensures { λ r. ⌜ (r ≡ markAfter wide mark) × (r ≤ mark + 6) ⌝ }
 {
     aligned_mark(wide, mark) + width_of(wide)
@@ -46,7 +46,7 @@ pub fn mark_after(wide: bool, mark: usize) -> usize
 
 // The mark after n words. Admission's marks are sums over at most 4,096 instructions of at most 2^32 words each.
 pub fn mark_after_words(wide: bool, words: u64, mark: u64) -> u64
-    requires { ⌜ (mark ≤ 4611686018427387904) × (words ≤ 4294967296) ⌝ }
+    requires { ⌜ (mark ≤ 2 ^ 62) × (words ≤ 2 ^ 32) ⌝ }
     ensures { λ r. ⌜ r ≡ markAfterWords wide words mark ⌝ }
 {
     if words == 0 {
@@ -80,7 +80,7 @@ pub fn store(buffer: &mut [u8], mark: usize, wide: bool, v: u32)
 
 // The outgoing word at the mark. Every mark is below 2^63: it counts bytes of a buffer.
 pub fn fetch(buffer: &[u8], mark: usize, wide: bool) -> u32
-    requires { ⌜ mark < 9223372036854775808 ⌝ }
+    requires { ⌜ mark < 2 ^ 63 ⌝ }
     ensures { λ r. ⌜ (r ≡ wordAt wide mark (now (buffer .entry))) × (r < 16777216) ⌝ }
 {
     let at = aligned_mark(wide, mark);

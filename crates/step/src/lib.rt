@@ -7,7 +7,10 @@ pub use along::resume;
 pub use along::run_on;
 pub use along::wanted_at;
 use base::Refusal;
+use calls::ENDED;
+use calls::NOT_FORMED;
 use calls::Operation;
+use calls::UNFIT;
 use calls::Yield;
 pub use place::Fitting;
 pub use place::Found;
@@ -84,13 +87,6 @@ pub fn start(list: &[u8], incoming: &mut [u8], outgoing: &[u8]) -> Yield
     );
     yield_of(list, &table, first.run, outgoing)
 }
-
-// The refusals of whoever drives a run.
-const ENDED: u8 = 24;
-
-const UNFIT: u8 = 23;
-
-const NOT_FORMED: u8 = 22;
 
 // A step of an admitted list, as its preparation left it: 24, 23, 22, or the reply taken.
 fn step_planned(

@@ -64,8 +64,8 @@ module _ (list table : List ℕ) (s : Sizes) (room : ℕ) (g : Grounds list tabl
   grounds-sound = prepared-sound list room (g .outgoing) (planBy list s) (g .prepared .bytes) (g .prepared .prepared)
 
   -- B, O and W
-  small : (lastMarks (planBy list s) .incoming ≤ 1152921504606846976) × (lastMarks (planBy list s) .outgoing ≤ 1152921504606846976)
-      × (worstOver (s .limit) (planBy list s .visits) ≤ 1152921504606846976)
+  small : (lastMarks (planBy list s) .incoming ≤ 2 ^ 60) × (lastMarks (planBy list s) .outgoing ≤ 2 ^ 60)
+      × (worstOver (s .limit) (planBy list s .visits) ≤ 2 ^ 60)
   unfolding countsOf
   small =
       let x = g .prepared .planned in (

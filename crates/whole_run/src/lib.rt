@@ -7,6 +7,7 @@ use crate::along::run_answers;
 pub use along::Reached;
 pub use along::Stop;
 use base::Refusal;
+use calls::NOT_FORMED;
 use calls::Ran;
 use listfile::Instruction;
 use listfile::Sizes;
@@ -155,7 +156,7 @@ pub fn run_row(list: &[u8], incoming: &mut [u8], outgoing: &[u8], row: &[u8]) ->
     let read = read_row(row);
     let RowRead::Answers(answers) = read else {
         return refused_run(Refusal {
-            number: 22,
+            number: NOT_FORMED,
             place: 0,
         });
     };

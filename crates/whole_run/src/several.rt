@@ -1,7 +1,10 @@
 // Several replies from a record on: the list is prepared once, and the row is checked before its first reply is taken.
 use crate::run_replies;
 use base::Refusal;
+use calls::ENDED;
+use calls::NOT_FORMED;
 use calls::Stepped;
+use calls::UNFIT;
 use reply::Record;
 use row::RowRead;
 use row::read_row;
@@ -55,16 +58,16 @@ fn steps_planned(
         y (now (incoming .exit)) (now (outgoing .exit)) ⌝ }
 {
     if r.ended {
-        return refuse_steps_by(24, r);
+        return refuse_steps_by(ENDED, r);
     }
     let sizes = plan.sizes;
     let fitting = step::record_fits(list, table, plan, r);
     let Fitting::Waits(_) = fitting else {
-        return refuse_steps_by(23, r);
+        return refuse_steps_by(UNFIT, r);
     };
     let read = read_row(row);
     let RowRead::Answers(answers) = read else {
-        return refuse_steps_by(22, r);
+        return refuse_steps_by(NOT_FORMED, r);
     };
     let v = run_replies(list, table, sizes, r, incoming, row, answers);
     let last = v.run;
