@@ -11,7 +11,9 @@ use lib.Dec.{eqb, ltb}
 use lib.ListN.{length}
 use Rattle.base.proofs.Tests.{on}
 use Rattle.qmodes.specs.Modes.{triesAfter}
-use Rattle.qmodes.specs.model.Answers.{canWait, wordsAhead, placeAfterWords, placeAfterWait}
+use Rattle.camac.specs.Words.{qmodeIn, adIn, commandIn}
+use Rattle.camac.proofs.BitLaws.{command-qmode, command-direction, command-wide, command-ad}
+use Rattle.qmodes.specs.model.Answers.{wordFlags, canWait, wordsAhead, placeAfterWords, placeAfterWait}
 use Rattle.qmodes.specs.declared.modes.QMode.{QMode}
 use Rattle.qmodes.specs.declared.modes.QMode.the-variants.{Stop, Ignore, Repeat, Scan}
 use Rattle.camac.specs.declared.words.Direction.{Direction}
@@ -20,10 +22,35 @@ use Rattle.packing.specs.Packing.{widthOf, markAfter, markAfterWords, stored}
 use Rattle.packing.specs.declared.Marks.{Marks}
 use Rattle.packing.proofs.MarkFacts.{mark-grows}
 use Rattle.row.specs.model.Words.{longwordIn, flagsAt, WordsAt, wordsStored}
-use Rattle.answers.specs.model.Visit.{marksBehind, NoteRoom, afterWords, bytesBy, bytesAfter, afterWait, Words, Waits, Passed, words, wait, Roomy}
+use Rattle.answers.specs.model.Visit.{rulesOf, rulesIn, marksBehind, NoteRoom, afterWords, bytesBy, bytesAfter, afterWait, Words, Waits, Passed, words, wait, Roomy}
 use Rattle.answers.specs.declared.Rules.{Rules}
 use Rattle.answers.specs.declared.Stay.{Stay}
 use Rattle.row.proofs.WordLaws.{words-length, words-none, words-more}
+
+-- Rules ------------------------------------------------------------------------------------------------------------------
+
+pub rules-mask : (first : ℕ) → wordFlags (qmodeIn first) (adIn first) ≡ rulesIn first .word
+unfolding rulesIn rulesOf
+rules-mask first = rw (command-qmode first 0, command-ad first 0)
+
+pub rules-in : (first second : ℕ) → rulesOf (commandIn first second) ≡ rulesIn first
+unfolding rulesIn rulesOf
+rules-in first second = rw (
+  command-qmode first second,
+  command-direction first second,
+  command-wide first second,
+  command-ad first second,
+  command-qmode first 0,
+  command-direction first 0,
+  command-wide first 0,
+  command-ad first 0,
+)
+
+-- by other names
+pub passed-as : {rules other : Rules} {limit answers : ℕ} {row b x : List ℕ} {s t : Stay} → rules ≡ other → Passed rules limit row answers s b t x
+    → Passed other limit row answers s b t x
+passed-as {limit = limit} {answers = answers} {row = row} {b = b} {x = x} {s = s} {t = t} e p =
+    subst (λ (y : Rules). Passed y limit row answers s b t x) e p
 
 -- Marks ------------------------------------------------------------------------------------------------------------------
 
@@ -178,6 +205,12 @@ module _ (rules : Rules) (row : List ℕ) (answers : ℕ) (s : Stay) (b : List �
   pub words-left : (k : ℕ) → Words rules row answers s k → k ≤ s .left
   words-left k w = omega (arith, w .ahead, ahead-most (rules .q) (s .position) (s .left))
 
+  -- what stepping behind them asks
+  pub words-room : (k : ℕ) → Words rules row answers s k → s .taken < 2 ^ 61
+      → (1 ≤ k) × ((k ≤ s .left) × ((s .left ≤ 65536) × ((s .taken < 2 ^ 61) × ((s .position < 65536)
+      × ((s .marks .incoming ≤ 2 ^ 60) × (s .marks .outgoing ≤ 2 ^ 60))))))
+  words-room k w t = (w .some, (words-left k w, (m .left, (t, (m .position, (small-incoming, small-outgoing))))))
+
   pub roomy-words : (k : ℕ) → Words rules row answers s k → (b′ : List ℕ) → length b′ ≡ length b → Roomy rules row answers (afterWords rules k s) b′
   unfolding afterWords
   roomy-words k w b′ e =
@@ -213,6 +246,12 @@ module _ (rules : Rules) (row : List ℕ) (answers : ℕ) (s : Stay) (b : List �
     small = m .small;
     outgoing = m .outgoing;
   }
+
+-- some of the words that may come
+pub some-words : (rules : Rules) (row : List ℕ) (answers : ℕ) (s : Stay) (most k : ℕ) → most ≤ wordsAhead (rules .q) (s .position) (s .left)
+    → s .taken + most ≤ answers → 1 ≤ k → k ≤ most → WordsAt (rules .word) row (s .taken) k → Words rules row answers s k
+some-words rules row answers s most k ahead answered some few are =
+    record { some = some; ahead = omega arith; answered = omega arith; are = are }
 
 -- Turns ------------------------------------------------------------------------------------------------------------------
 

@@ -19,7 +19,7 @@ ghost use Rattle.qmodes.specs.model.Answers.{wordsAhead};
 ghost use Rattle.camac.specs.model.Bits.{Passes};
 ghost use Rattle.packing.specs.Packing.{markAfterWords};
 ghost use Rattle.row.specs.model.Words.{flagsAt};
-ghost use Rattle.answers.specs.model.Visit.{rulesOf, marksBehind, noteBehind, NoteRoom, afterWords, bytesAfter, afterWait, Words, Waits, Passed, Roomy};
+ghost use Rattle.answers.specs.model.Visit.{rulesIn, marksBehind, noteBehind, NoteRoom, afterWords, bytesAfter, waitedWith, afterWait, Words, Takes, Waits, Passed, Roomy};
 
 // What an instruction decides for its answers: how its words move, and the flags that make an answer a word or, where it is none, no cause.
 pub struct Rules {
@@ -55,9 +55,9 @@ fn direction_in(first: u32) -> Direction
     Direction::Neither
 }
 
-pub fn rules_in(first: u32) -> Rules
+fn rules_in(first: u32) -> Rules
     requires { ⌜ Passes first ⌝ }
-    ensures { λ r. ⌜ ((second : ℕ) → r ≡ rulesOf (commandIn first second)) ⌝ }
+    ensures { λ r. ⌜ r ≡ rulesIn first ⌝ }
 {
     let q = camac::qmode_in(first);
     let ad = camac::has_ad(first);
@@ -138,34 +138,42 @@ fn after_words(rules: Rules, here: Stay, words: usize) -> Stay
     }
 }
 
-// The words from here on, whose first is known to be one: their number, up to `most`, each stored where it is read.
-fn words_from(
+// The words from here on, whose first is known to be one: up to `most`, each stored where it is read.
+fn take_words(
     rules: Rules,
     here: Stay,
     most: usize,
     incoming: &mut [u8],
     row: &[u8],
     answers: usize,
-) -> usize
+) -> Stay
     requires { ⌜ Roomy rules (now row) answers here (now incoming) × Words rules (now row) answers here 1
         × ((1 ≤ most) × ((most ≤ wordsAhead (rules .q) (here .position) (here .left)) × (here .taken + most ≤ answers))) ⌝ }
-    ensures { λ k. ⌜ Words rules (now (row .entry)) answers here k
-        × (now (incoming .exit) ≡ bytesAfter rules (now (row .entry)) k here (now (incoming .entry))) ⌝ }
+    ensures { λ s. ⌜ Takes rules (now (row .entry)) answers here (now (incoming .entry)) s (now (incoming .exit)) ⌝ }
 {
     let direction = rules.direction;
     let marks = here.marks;
     match direction {
-        Direction::Incoming => read_words(
-            rules.wide,
-            incoming,
-            marks.incoming,
-            row,
-            here.taken,
-            most,
-            rules.word,
-        ),
-        Direction::Outgoing => pass_words(row, here.taken, most, rules.word),
-        Direction::Neither => pass_words(row, here.taken, most, rules.word),
+        Direction::Incoming => {
+            let words = read_words(
+                rules.wide,
+                incoming,
+                marks.incoming,
+                row,
+                here.taken,
+                most,
+                rules.word,
+            );
+            after_words(rules, here, words)
+        }
+        Direction::Outgoing => {
+            let words = pass_words(row, here.taken, most, rules.word);
+            after_words(rules, here, words)
+        }
+        Direction::Neither => {
+            let words = pass_words(row, here.taken, most, rules.word);
+            after_words(rules, here, words)
+        }
     }
 }
 
@@ -198,20 +206,33 @@ fn is_wait(rules: Rules, limit: usize, here: Stay, row: &[u8], answers: usize) -
     qmodes::can_wait(q, limit, here.tries, here.position)
 }
 
-fn after_wait(rules: Rules, here: Stay) -> Stay
-    requires { ⌜ (here .tries < 65536) × ((here .taken < 2 ^ 61) × (here .position < 65536)) ⌝ }
-    ensures { λ s. ⌜ s ≡ afterWait rules here ⌝ }
+// One answer on, with no word moved.
+fn waited(tries: usize, position: usize, here: Stay) -> Stay
+    requires { ⌜ here .taken < 2 ^ 61 ⌝ }
+    ensures { λ s. ⌜ s ≡ waitedWith tries position here ⌝ }
 {
-    let q = rules.q;
     let marks = here.marks;
     let note = here.note;
     Stay {
         taken: here.taken + 1,
         left: here.left,
-        tries: qmodes::tries_after(q, false, here.tries),
-        position: qmodes::place_after_wait(q, here.position),
+        tries: tries,
+        position: position,
         marks: marks,
         note: note,
+    }
+}
+
+fn after_wait(rules: Rules, here: Stay) -> Stay
+    requires { ⌜ (here .tries < 65536) × ((here .taken < 2 ^ 61) × (here .position < 65536)) ⌝ }
+    ensures { λ s. ⌜ s ≡ afterWait rules here ⌝ }
+{
+    let q = rules.q;
+    match q {
+        QMode::Stop => waited(0, here.position, here),
+        QMode::Ignore => waited(0, here.position, here),
+        QMode::Repeat => waited(here.tries + 1, here.position, here),
+        QMode::Scan => waited(0, qmodes::place_after_wait(q, here.position), here),
     }
 }
 
@@ -245,8 +266,7 @@ fn visit_on(
             if most == 0 {
                 return here;
             }
-            let words = words_from(rules, here, most, incoming, row, answers);
-            here = after_words(rules, here, words);
+            here = take_words(rules, here, most, incoming, row, answers);
         } else {
             if !is_wait(rules, limit, here, row, answers) {
                 return here;
@@ -257,25 +277,37 @@ fn visit_on(
     here
 }
 
+// Whether the answer here is the last word of its instruction.
+fn is_last(first: u32, here: Stay, row: &[u8], answers: usize) -> bool
+    requires { ⌜ answers * 8 ≤ length (now row) ⌝ }
+    ensures { λ b. ⌜ (b ≡ true → (here .left ≡ 1) × Words (rulesIn first) (now (row .entry)) answers here 1) ⌝ }
+{
+    if here.left != 1 {
+        return false;
+    }
+    if answers <= here.taken {
+        return false;
+    }
+    let mask = qmodes::word_flags(camac::qmode_in(first), camac::has_ad(first));
+    is_word_at(row, here.taken, mask)
+}
+
 // The answers of an instruction from here on. A last word is taken without a loop.
 pub fn visit(
-    rules: Rules,
+    first: u32,
     limit: usize,
     from: Stay,
     incoming: &mut [u8],
     row: &[u8],
     answers: usize,
 ) -> Stay
-    requires { ⌜ (limit < 65536) × Roomy rules (now row) answers from (now incoming) ⌝ }
-    ensures { λ s. ⌜ Passed rules limit (now (row .entry)) answers from (now (incoming .entry)) s (now (incoming .exit)) ⌝ }
+    requires { ⌜ (limit < 65536) × (Passes first × Roomy (rulesIn first) (now row) answers from (now incoming)) ⌝ }
+    ensures { λ s. ⌜ Passed (rulesIn first) limit (now (row .entry)) answers from (now (incoming .entry)) s (now (incoming .exit)) ⌝ }
 {
-    if from.left == 1 {
-        if from.taken < answers {
-            if is_word_at(row, from.taken, rules.word) {
-                last_word(rules, from, incoming, row, answers);
-                return after_words(rules, from, 1);
-            }
-        }
+    if is_last(first, from, row, answers) {
+        let rules = rules_in(first);
+        last_word(rules, from, incoming, row, answers);
+        return after_words(rules, from, 1);
     }
-    visit_on(rules, limit, from, incoming, row, answers)
+    visit_on(rules_in(first), limit, from, incoming, row, answers)
 }

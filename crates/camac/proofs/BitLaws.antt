@@ -1,15 +1,17 @@
 -- The parts of an instruction decoded, by the bits of its longwords. The transfer mode decides which words and buffer it has; F's 8-bit and
 -- 16-bit lie side by side in the first longword; refusal 8 leaves no inline instruction but a write.
-use Prim.Native.Nat.{ℕ, zero, suc, _+_, _*_, _/_, _%_, _≤_, _<_}
+use Prim.Native.Nat.{ℕ, zero, suc, _+_, _*_, _/_, _%_, _^_, _≤_, _<_}
 use mathlib.Core.Path.{_≡_, refl}
-use mathlib.Core.Bool.{Bool, true, false, _&&_, _||_, not}
+use mathlib.Core.Bool.{Bool, true, false, _&&_, _||_, not, and-false}
 use mathlib.Core.List.{[], _∷_}
 use native.Mathlib.Omega.{arith}
-use borrow.Author.Tests.{ne-eqb, eqb-true, not-false}
+use borrow.Author.Tests.{ne-eqb, le-ltb, eqb-true, eqb-false, not-false}
 use lib.Dec.{eqb}
-use Rattle.base.specs.Checks.{if_then_else_, _gives_}
+use Rattle.base.specs.Checks.{if_then_else_, _gives_, bit}
 use Rattle.base.proofs.Bools.{and-right, or-false-left, or-false-right}
 use Rattle.base.proofs.Checks.{passed}
+use Rattle.base.proofs.Tests.{on}
+use Rattle.qmodes.specs.Scan.{positions}
 use Rattle.camac.specs.Words.{modeIn, qmodeIn, addressIn, wideIn, adIn, isControl, isWrite, blockWords, transferIn, commandIn, qmodeOf, addressOf, wordsOf, directionBy, directionOf, isScanIn, zeroBitSet, badAddress, badMode, badSecond, aboveP, camacFault}
 use Rattle.camac.specs.model.Bits.{isIncoming, isOutgoing, Passes}
 use Rattle.qmodes.specs.declared.modes.QMode.{QMode}
@@ -68,7 +70,7 @@ command-few first second = rw (command-words first second) (go (eqb (modeIn firs
     go true false = omega arith
     go false wide = omega arith
 
-command-direction : (first second : ℕ)
+pub command-direction : (first second : ℕ)
     → directionOf (commandIn first second .transfer) ≡ (if eqb (modeIn first) 3 then Neither else directionBy (addressIn first .function))
 unfolding commandIn directionOf transferIn
 command-direction first second = go (modeIn first) (qmodeIn first) (addressIn first) (wideIn first) (omega arith)
@@ -109,6 +111,34 @@ function-direction first =
 
 -- What a field that passed shows ---------------------------------------------------------------------------------------------
 
+passes-zero : (len first second : ℕ) → camacFault len first second ≡ 0 → zeroBitSet first ≡ false
+unfolding camacFault
+passes-zero len first second e =
+    passed (
+    zeroBitSet first gives 6
+    ∷ badAddress first gives 7
+    ∷ badMode len first gives 8
+    ∷ (badSecond first second || (isScanIn first && aboveP (commandIn first second .transfer))) gives 9
+    ∷ []
+    ) (omega arith) e .0
+
+bit-none : (x : ℕ) → x < 2 → ¬ (x % 2 ≡ 1) → x ≡ 0
+bit-none zero h e = refl
+bit-none (suc zero) h e = absurd (e refl)
+bit-none (suc (suc x)) h e = absurd (omega arith)
+
+-- bits 31 and 30 are zero
+pub passes-top : (first : ℕ) → Passes first → first < 2 ^ 32 → first < 2 ^ 30
+passes-top first p h =
+    let zeros : zeroBitSet first ≡ false = passes-zero (p .len) first (p .second) (p .right) in
+    let high : ¬ (first / 2 ^ 31 % 2 ≡ 1) = eqb-false _ _ (or-false-left (bit 31 first) _ zeros) in
+    let next : ¬ (first / 2 ^ 30 % 2 ≡ 1) = eqb-false _ _ (or-false-left (bit 30 first) _ (or-false-right (bit 31 first) _ zeros)) in
+    let two : first / 2 ^ 31 < 2 = omega arith in
+    let none = bit-none (first / 2 ^ 31) two high in
+    let lower : first / 2 ^ 30 < 2 = omega arith in
+    let nought = bit-none (first / 2 ^ 30) lower next in
+    omega arith
+
 passes-mode : (len first second : ℕ) → camacFault len first second ≡ 0 → badMode len first ≡ false
 unfolding camacFault
 passes-mode len first second e =
@@ -133,6 +163,23 @@ passes-inline len first second e m =
     let inline : eqb (modeIn first) 3 && not (isWrite (addressIn first .function)) ≡ false
     = or-false-right control _ (or-false-right length _ (or-false-right (eqb (modeIn first) 2) _ (passes-mode len first second e))) in
     not-false _ (rw m at inline)
+
+-- A single --------------------------------------------------------------------------------------------------------------------
+
+-- every position has itself left, so that one word is never above P
+single-within : (first second : ℕ) → modeIn first ≡ 0 → aboveP (commandIn first second .transfer) ≡ false
+unfolding positions addressIn
+single-within first second m =
+    rw (command-words first second, command-address first second, m)
+    (le-ltb (positions (record { station = addressIn first .station; subaddress = addressIn first .subaddress })) 1 (omega arith))
+
+pub single-fault : (len first second : ℕ) → zeroBitSet first ≡ false → badAddress first ≡ false → modeIn first ≡ 0
+    → camacFault len first second ≡ (if eqb len 4 then 0 else 8)
+unfolding camacFault
+single-fault len first second z a m =
+    on (eqb len 4)
+    (λ e. rw (z, a, single-within first second m, m, e) (rw (and-false (isScanIn first))))
+    (λ e. rw (z, a, m, e))
 
 -- The direction --------------------------------------------------------------------------------------------------------------
 

@@ -74,10 +74,11 @@ pub fn start_in(first: u32) -> ScanPosition
     }
 }
 
-// The same as one number, N * 16 + A: the two lie side by side.
+// The same as one number, N * 16 + A: the two lie side by side, and above them are zeros.
 pub fn place_in(first: u32) -> usize
+    requires { ⌜ Passes first ⌝ }
     ensures { λ r. ⌜ ((second : ℕ) → r ≡ positionOf (commandIn first second .transfer) .station * 16
         + positionOf (commandIn first second .transfer) .subaddress) × (r < 512) ⌝ }
 {
-    ((first >> 21) % 512) as usize
+    (first >> 21) as usize
 }

@@ -296,7 +296,7 @@ fn is_above_p(t: Transfer) -> bool
     position_of(t).positions_left() < words_of(t)
 }
 
-// Refusals 6 to 9 of a CAMAC field's body, 0 where it passes.
+// Refusals 6 to 9 of a CAMAC field's body, 0 where it passes. A single's one word is never above P: a good address has a position left.
 pub fn camac_fault(length: usize, first: u32, second: u32) -> u8
     ensures { λ r. ⌜ r ≡ camacFault length first second ⌝ }
 {
@@ -305,6 +305,12 @@ pub fn camac_fault(length: usize, first: u32, second: u32) -> u8
     }
     if is_bad_address(first) {
         return 7;
+    }
+    if mode_in(first) == 0 {
+        if length == 4 {
+            return 0;
+        }
+        return 8;
     }
     if is_bad_mode(length, first) {
         return 8;

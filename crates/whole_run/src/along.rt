@@ -1,6 +1,5 @@
 // On along the walk and over the answers, with no record made before the run stops.
 use answers::Stay;
-use answers::rules_in;
 use answers::visit;
 use camac::Direction;
 use listfile::Sizes;
@@ -12,6 +11,7 @@ ghost use mathlib.Core.Path.{_≡_};
 ghost use mathlib.Core.Bool.{true, false};
 ghost use Prim.Native.Nat.{ℕ, _*_, _^_, _<_, _≤_};
 ghost use Rattle.camac.specs.Words.{commandIn, wordsOf};
+ghost use Rattle.camac.specs.model.Bits.{Passes};
 ghost use Rattle.walk.specs.Walk.{movedBy};
 ghost use lib.ListN.{length};
 ghost use Rattle.walk.specs.model.Sums.{planBy};
@@ -107,6 +107,7 @@ fn place_of(p: ScanPosition) -> usize
 }
 
 fn arrive(first: u32, words: usize, marks: Marks, here: Stay) -> Stay
+    requires { ⌜ Passes first ⌝ }
     ensures { λ s. ⌜ ((second : ℕ) → words ≡ wordsOf (commandIn first second .transfer) → s ≡ arrived (commandIn first second) marks here) ⌝ }
 {
     let note = here.note;
@@ -171,8 +172,7 @@ pub(crate) fn run_answers(
     let mut longword = listfile::first_at(list, base::usize_of_short(table[begin]));
     let mut here = stay_of(r, from);
     loop {
-        let rules = rules_in(longword);
-        here = visit(rules, sizes.limit, here, incoming, row, answers);
+        here = visit(longword, sizes.limit, here, incoming, row, answers);
         if here.left != 0 {
             return Stop {
                 spot: spot,

@@ -1,7 +1,7 @@
--- `rules_in` is `rulesOf` the instruction, field by field: each is what the bits of the first longword say of it.
+-- `rules_in` is `rulesIn`, field by field: each is what the bits of the first longword say of it.
 use borrow.Author.Needs.{needs}
 use Rattle.camac.proofs.BitLaws.{command-qmode, command-wide, command-ad}
-use Rattle.answers.specs.model.Visit.{rulesOf}
+use Rattle.answers.specs.model.Visit.{rulesOf, rulesIn}
 use Rattle.answers.proofs.rules_in.Statement.{statement}
 use Rattle.answers.proofs.rules_in.Tie as tie
 
@@ -21,15 +21,15 @@ word-flags-requires : tie.Need-word-flags-requires
 word-flags-requires c κs = search needs
 
 returns : tie.Need-returns
-unfolding rulesOf
-returns c = λ second.
+unfolding rulesOf rulesIn
+returns c =
     rw (
       command-qmode,
       command-wide,
       command-ad,
       c .word-flags .ensures,
       c .before .is-wide .ensures,
-      c .before .before .direction-in .ensures second,
+      c .before .before .direction-in .ensures 0,
       c .before .before .before .has-ad .ensures,
       c .before .before .before .before .qmode-in .ensures,
     )

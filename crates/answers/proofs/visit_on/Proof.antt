@@ -7,7 +7,7 @@ use borrow.Author.Needs.{needs}
 use borrow.Author.Tests.{not-false}
 use lib.ListN.{length}
 use Rattle.answers.specs.model.Visit.{Passed, none, Roomy}
-use Rattle.answers.proofs.VisitRoom.{small-incoming, small-outgoing, words-left, one-word, words-turn, wait-turn, words-taken, wait-taken}
+use Rattle.answers.proofs.VisitRoom.{one-word, words-turn, wait-turn, words-taken, wait-taken}
 use Rattle.answers.proofs.visit_on.Statement.{statement}
 use Rattle.answers.proofs.visit_on.Tie as tie
 
@@ -45,8 +45,8 @@ same-length-2 c = c .before .before .before .before .before .before .before .bef
 returns-2 : tie.Need-returns-2 Inv-loop μ-loop
 returns-2 c = c .before .before .before .before .before .before .before .before .before .before .loop .inv .0
 
-words-from-requires : tie.Need-words-from-requires Inv-loop μ-loop
-words-from-requires c κs =
+take-words-requires : tie.Need-take-words-requires Inv-loop μ-loop
+take-words-requires c κs =
     let at-least = c .before .before in
     let at-words-ahead = at-least .before .before in
     let at-is-word-at = at-words-ahead .before .before in
@@ -60,25 +60,15 @@ words-from-requires c κs =
       (omega (arith, c .before .if4 .left), (omega (arith, ahead, least .0), omega (arith, least .1 .0, at-if2 .if2 .left))),
     )
 
-after-words-requires : tie.Need-after-words-requires Inv-loop μ-loop
-after-words-requires c κs =
-    let at-loop = c .before .before .before .before .before .before .before .before .before .before .before .before .before .before in
-    let m = at-loop .loop .inv .1 .0 in
-    let w = c .before .before .words-from .ensures .0 in (
-      w .some,
-      (words-left _ _ _ _ _ m _ w, (m .left, (omega (arith, m .taken), (m .position, (small-incoming _ _ _ _ _ m, small-outgoing _ _ _ _ _ m))))),
-    )
-
 loop-less : tie.Need-loop-less Inv-loop μ-loop
 loop-less c =
-    let w = c .before .before .before .words-from .ensures .0 in
-    omega (arith, w .some, w .answered, words-taken _ _ _ _ (c .after-words .ensures) .0)
+    let t = c .before .before .take-words .ensures in omega (arith, t .words .some, t .words .answered, words-taken _ _ _ _ (t .behind) .0)
 
 loop-again : tie.Need-loop-again Inv-loop μ-loop
 loop-again c =
-    let i = c .before .before .before .before .before .before .before .before .before .before .before .before .before .before .before .loop .inv in
-    let w = c .before .before .before .words-from .ensures in
-    words-turn _ _ _ _ _ _ _ _ (i .0) (i .1 .0) (i .1 .1) _ (w .0) _ (c .after-words .ensures) _ (w .1)
+    let i = c .before .before .before .before .before .before .before .before .before .before .before .before .before .before .loop .inv in
+    let t = c .before .before .take-words .ensures in
+    words-turn _ _ _ _ _ _ _ _ (i .0) (i .1 .0) (i .1 .1) _ (t .words) _ (t .behind) _ (t .bytes)
 
 is-wait-requires : tie.Need-is-wait-requires Inv-loop μ-loop
 is-wait-requires c κs =
@@ -127,8 +117,7 @@ visit-on-spec =
     least-requires
     same-length-2
     returns-2
-    words-from-requires
-    after-words-requires
+    take-words-requires
     loop-less
     loop-again
     is-wait-requires

@@ -7,7 +7,7 @@ use mathlib.Core.List.{List}
 use lib.Bits.{bitAnd, bitOr}
 use lib.Dec.{eqb}
 use lib.ListN.{length}
-use Rattle.camac.specs.Words.{qmodeOf, directionOf}
+use Rattle.camac.specs.Words.{qmodeOf, directionOf, commandIn}
 use Rattle.qmodes.specs.Modes.{triesAfter}
 use Rattle.qmodes.specs.model.Answers.{wordFlags, waitFlags, canWait, wordsAhead, placeAfterWords, placeAfterWait}
 use Rattle.qmodes.specs.declared.modes.QMode.the-variants.{Scan}
@@ -34,6 +34,10 @@ rulesOf c = record {
   word = wordFlags (qmodeOf (c .transfer)) (c .ad);
   ad = c .ad;
 }
+
+-- the same by its first longword; the second has the number of words alone
+unfoldable pub rulesIn : ℕ → Rules
+rulesIn first = rulesOf (commandIn first 0)
 
 -- Where a run stands -----------------------------------------------------------------------------------------------------
 
@@ -99,15 +103,18 @@ unfoldable pub bytesAfter : Rules → List ℕ → ℕ → Stay → List ℕ →
 bytesAfter rules row k s b = bytesBy (rules .direction) (rules .wide) row (s .taken) (s .marks .incoming) k b
 
 -- behind an answer that is no word
-unfoldable pub afterWait : Rules → Stay → Stay
-afterWait rules s = record {
+abbrev pub waitedWith : ℕ → ℕ → Stay → Stay
+waitedWith tries position s = record {
   taken = s .taken + 1;
   left = s .left;
-  tries = triesAfter (rules .q) false (s .tries);
-  position = placeAfterWait (rules .q) (s .position);
+  tries = tries;
+  position = position;
   marks = s .marks;
   note = s .note;
 }
+
+unfoldable pub afterWait : Rules → Stay → Stay
+afterWait rules s = waitedWith (triesAfter (rules .q) false (s .tries)) (placeAfterWait (rules .q) (s .position)) s
 
 -- k words from a stay on, none of them at or behind the end of the answers
 pub record Words (rules : Rules) (row : List ℕ) (answers : ℕ) (s : Stay) (k : ℕ) : Type 0 where
@@ -115,6 +122,13 @@ pub record Words (rules : Rules) (row : List ℕ) (answers : ℕ) (s : Stay) (k 
   pub ahead : k ≤ wordsAhead (rules .q) (s .position) (s .left)
   pub answered : s .taken + k ≤ answers
   pub are : WordsAt (rules .word) row (s .taken) k
+
+-- some words taken: the stay and the buffer behind them
+pub record Takes (rules : Rules) (row : List ℕ) (answers : ℕ) (s : Stay) (b : List ℕ) (s′ : Stay) (b′ : List ℕ) : Type 0 where
+  pub count : ℕ
+  pub words : Words rules row answers s count
+  pub behind : s′ ≡ afterWords rules count s
+  pub bytes : b′ ≡ bytesAfter rules row count s b
 
 -- an answer that is no word and no cause
 pub record Waits (rules : Rules) (limit : ℕ) (row : List ℕ) (answers : ℕ) (s : Stay) : Type 0 where

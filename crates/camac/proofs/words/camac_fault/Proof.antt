@@ -1,9 +1,12 @@
 -- `camac_fault` is `camacFault`: the callees are its tests in its order, so where one holds no earlier one does.
 use borrow.Author.Needs.{needs}
 use mathlib.Core.Path.{_≡_, sym, _∙_}
+use borrow.Author.Tests.{eq-eqb, ne-eqb}
+use lib.Dec.{eqb}
 use mathlib.Core.Bool.{false, _&&_}
 use Rattle.base.specs.Checks.{if_then_else_}
 use Rattle.camac.specs.Words.{zeroBitSet, badAddress, badMode, isScanIn, aboveP, commandIn, camacFault}
+use Rattle.camac.proofs.BitLaws.{single-fault}
 use Rattle.camac.proofs.words.camac_fault.Statement.{statement}
 use Rattle.camac.proofs.words.camac_fault.Tie as tie
 
@@ -13,26 +16,38 @@ passes-6 c = sym (c .before .is-zero-bit-set .ensures) ∙ c .if1 .left
 passes-7 : (c : tie.Else2) → badAddress (c .before .before .before .before .args .first) ≡ false
 passes-7 c = sym (c .before .is-bad-address .ensures) ∙ c .if2 .left
 
+-- a single: behind 6 and 7 its length is all that is left to refuse
+single :
+    (c : tie.Then3)
+    → camacFault (c .before .before .before .before .before .before .args .length) (c .before .before .before .before .before .before .args .first)
+    (c .before .before .before .before .before .before .args .second)
+    ≡ (if eqb (c .before .before .before .before .before .before .args .length) 4 then 0 else 8)
+single c =
+    single-fault _ _ _ (passes-6 (c .before .before .before .before)) (passes-7 (c .before .before))
+    (sym (c .before .mode-in .ensures) ∙ c .if3 .taken)
+
 passes-8 :
-    (c : tie.Else3)
-    → badMode (c .before .before .before .before .before .before .args .length) (c .before .before .before .before .before .before .args .first) ≡ false
-passes-8 c = sym (c .before .is-bad-mode .ensures) ∙ c .if3 .left
+    (c : tie.Else5)
+    → badMode (c .before .before .before .before .before .before .before .before .args .length)
+    (c .before .before .before .before .before .before .before .before .args .first)
+    ≡ false
+passes-8 c = sym (c .before .is-bad-mode .ensures) ∙ c .if5 .left
 
-abbrev start : tie.Else4 → tie.Start
-start c = c .before .before .before .before .before .before .before .before
+abbrev start : tie.Else6 → tie.Start
+start c = c .before .before .before .before .before .before .before .before .before .before
 
--- past the fourth test n above P is all that is left to refuse
+-- past the sixth test n above P is all that is left to refuse
 only-n-above-p :
-    (c : tie.Else4)
+    (c : tie.Else6)
     → camacFault (start c .args .length) (start c .args .first) (start c .args .second)
     ≡ (if isScanIn (start c .args .first) && aboveP (commandIn (start c .args .first) (start c .args .second) .transfer) then 9 else 0)
 unfolding camacFault
 only-n-above-p c =
     rw (
-      passes-6 (c .before .before .before .before .before .before),
-      passes-7 (c .before .before .before .before),
+      passes-6 (c .before .before .before .before .before .before .before .before),
+      passes-7 (c .before .before .before .before .before .before),
       passes-8 (c .before .before),
-      sym (c .before .is-bad-second .ensures) ∙ c .if4 .left,
+      sym (c .before .is-bad-second .ensures) ∙ c .if6 .left,
     )
 
 is-zero-bit-set-requires : tie.Need-is-zero-bit-set-requires
@@ -49,31 +64,40 @@ returns-2 : tie.Need-returns-2
 unfolding camacFault
 returns-2 c = rw (passes-6 (c .before .before), ← c .before .is-bad-address .ensures, c .if2 .taken)
 
+mode-in-requires : tie.Need-mode-in-requires
+mode-in-requires c κs = search needs
+
+returns-3 : tie.Need-returns-3
+returns-3 c = rw (single (c .before), eq-eqb _ _ (c .if4 .taken))
+
+returns-4 : tie.Need-returns-4
+returns-4 c = rw (single (c .before), ne-eqb _ _ (c .if4 .left))
+
 is-bad-mode-requires : tie.Need-is-bad-mode-requires
 is-bad-mode-requires c κs = search needs
 
-returns-3 : tie.Need-returns-3
+returns-5 : tie.Need-returns-5
 unfolding camacFault
-returns-3 c =
+returns-5 c =
     rw (
-      passes-6 (c .before .before .before .before),
-      passes-7 (c .before .before),
+      passes-6 (c .before .before .before .before .before .before),
+      passes-7 (c .before .before .before .before),
       ← c .before .is-bad-mode .ensures,
-      c .if3 .taken,
+      c .if5 .taken,
     )
 
 is-bad-second-requires : tie.Need-is-bad-second-requires
 is-bad-second-requires c κs = search needs
 
-returns-4 : tie.Need-returns-4
+returns-6 : tie.Need-returns-6
 unfolding camacFault
-returns-4 c =
+returns-6 c =
     rw (
-      passes-6 (c .before .before .before .before .before .before),
-      passes-7 (c .before .before .before .before),
+      passes-6 (c .before .before .before .before .before .before .before .before),
+      passes-7 (c .before .before .before .before .before .before),
       passes-8 (c .before .before),
       ← c .before .is-bad-second .ensures,
-      c .if4 .taken,
+      c .if6 .taken,
     )
 
 qmode-in-requires : tie.Need-qmode-in-requires
@@ -88,36 +112,36 @@ command-in-requires c κs = search needs
 is-above-p-requires : tie.Need-is-above-p-requires
 is-above-p-requires c κs = search needs
 
-returns-5 : tie.Need-returns-5
-returns-5 c =
-    rw (
-      only-n-above-p (c .before .before .before .before .before .before),
-      ← c .before .before .before .before .before .qmode-in .ensures,
-      ← c .before .before .before .before .is-scan .ensures,
-      c .before .before .before .if5 .taken,
-      ← c .before .before .command-in .ensures,
-      ← c .before .is-above-p .ensures,
-      c .if6 .taken,
-    )
-
-returns-6 : tie.Need-returns-6
-returns-6 c =
-    rw (
-      only-n-above-p (c .before .before .before .before .before .before),
-      ← c .before .before .before .before .before .qmode-in .ensures,
-      ← c .before .before .before .before .is-scan .ensures,
-      c .before .before .before .if5 .taken,
-      ← c .before .before .command-in .ensures,
-      ← c .before .is-above-p .ensures,
-      c .if6 .left,
-    )
-
 returns-7 : tie.Need-returns-7
-returns-7 c = rw (
+returns-7 c =
+    rw (
+      only-n-above-p (c .before .before .before .before .before .before),
+      ← c .before .before .before .before .before .qmode-in .ensures,
+      ← c .before .before .before .before .is-scan .ensures,
+      c .before .before .before .if7 .taken,
+      ← c .before .before .command-in .ensures,
+      ← c .before .is-above-p .ensures,
+      c .if8 .taken,
+    )
+
+returns-8 : tie.Need-returns-8
+returns-8 c =
+    rw (
+      only-n-above-p (c .before .before .before .before .before .before),
+      ← c .before .before .before .before .before .qmode-in .ensures,
+      ← c .before .before .before .before .is-scan .ensures,
+      c .before .before .before .if7 .taken,
+      ← c .before .before .command-in .ensures,
+      ← c .before .is-above-p .ensures,
+      c .if8 .left,
+    )
+
+returns-9 : tie.Need-returns-9
+returns-9 c = rw (
   only-n-above-p (c .before .before .before),
   ← c .before .before .qmode-in .ensures,
   ← c .before .is-scan .ensures,
-  c .if5 .left,
+  c .if7 .left,
 )
 
 pub camac-fault-spec : {M : Type 1} → statement M
@@ -128,14 +152,17 @@ camac-fault-spec =
     returns
     is-bad-address-requires
     returns-2
-    is-bad-mode-requires
+    mode-in-requires
     returns-3
-    is-bad-second-requires
     returns-4
+    is-bad-mode-requires
+    returns-5
+    is-bad-second-requires
+    returns-6
     qmode-in-requires
     is-scan-requires
     command-in-requires
     is-above-p-requires
-    returns-5
-    returns-6
-    returns-7)
+    returns-7
+    returns-8
+    returns-9)
