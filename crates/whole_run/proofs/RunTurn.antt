@@ -113,7 +113,7 @@ module _ {list table : List ℕ} {s : Sizes} {room : ℕ} {r : Record} {place : 
   waiting = by (tagAt list place) refl
     where
       next : OnWalk list (s .count) (spotAfter (r .spot))
-      next = walk-behind list table s room g (found .0) r (found .1 .1) .0
+      next = walk-behind g (found .1 .1) .0
 
       by : (t : Tag) → tagAt list place ≡ t → Waiting list table r place
       by CamacTag e = record {
@@ -132,13 +132,13 @@ module _ {list table : List ℕ} {s : Sizes} {room : ℕ} (g : Grounds list tabl
   alive-placed : Placed (r .position)
   alive-placed =
       ok-placed (qmodeOf (commandIn first second .transfer)) (positionOf (commandIn first second .transfer)) (r .position) (command-placed first second)
-      (numbers list table s room g (commandIn first second) r al .position)
+      (numbers g al .position)
 
   -- the record of its own stay
   stay-again : (row : List ℕ) (from : ℕ) → recordAt r row from (r .spot) (stayOf r from) ≡ r
   unfolding recordAt stayOf gatheredBits
   stay-again row from =
-      let ended : false ≡ r .ended = sym (numbers list table s room g (commandIn first second) r al .waits) in
+      let ended : false ≡ r .ended = sym (numbers g al .waits) in
       let none : 0 ≡ from - from = omega arith in
       let operations : r .operations + (from - from) ≡ r .operations = omega arith in
       let status : bitOr (r .status) (gatheredBits row from (from - from)) ≡ r .status =
@@ -223,7 +223,7 @@ module _ (z : Run) (k : Spot) (u : Stay) (b : List ℕ) where
         → length b ≡ length (z .buffer) → BeforeWord z first k u b
     unfolding recordAt
     before-word {words = words} m a onward kept =
-        let some : 1 ≤ u .left = numbers (z .list) (z .table) (z .sizes) _ g c (at z k u) (moved-alive m) .left-least in
+        let some : 1 ≤ u .left = numbers g (moved-alive m) .left-least in
         record {
           words = words;
           command = a;
@@ -247,7 +247,7 @@ module _ (z : Run) (k : Spot) (u : Stay) (b : List ℕ) where
           → takeReply (z .sizes .limit) (restFrom (z .list) (z .sizes .count) (spotAfter (at z k u .spot))) c (l .reply) (stateOf (at z k u) b out)
           ≡ stood z k v y out
       unfolding recordAt
-      takes out = l .takes _ (halts (walk-behind (z .list) (z .table) (z .sizes) _ g c (at z k u) al .0 .walk)) out
+      takes out = l .takes _ (halts (walk-behind g al .0 .walk)) out
 
       standing-answer : Standing z k v y
       unfolding recordAt
@@ -259,11 +259,11 @@ module _ (z : Run) (k : Spot) (u : Stay) (b : List ℕ) where
             formed = subst (FormedFrom (z .row)) next (formed-here (z .row) (u .taken * 8) (x .formed) (l .inside) .behind);
             kept = kept;
             behind = λ e.
-                let w = last-going (z .list) (z .table) (z .sizes) _ g c (at z k u) al (at z k v) y (omega (arith, l .some, l .left)) (l .last e) kept in
+                let w = last-going g al (at z k v) y (omega (arith, l .some, l .left)) (l .last e) kept in
                 record { on = w .on; room = w .room };
-            stage = took-stage (z .list) (z .table) (z .sizes) _ g c (at z k u) al (l .reply) b (stood z k v y) takes;
+            stage = took-stage g al (l .reply) b (stood z k v y) takes;
             goes = λ out. moved-to x (waits-here (l .some)) .goes out
-                ∙ took-goes (z .list) (z .table) (z .sizes) _ g c (at z k u) al (l .reply) b (stood z k v y) takes (z .row) (u .taken * 8) (l .inside) (l .is) out
+                ∙ took-goes g al (l .reply) b (stood z k v y) takes (z .row) (u .taken * 8) (l .inside) (l .is) out
                 ∙ ap (λ (n : ℕ). rowFrom (planBy (z .list) (z .sizes)) (z .row) n (stood z k v y out)) next;
           }
 
@@ -302,7 +302,7 @@ module _ {z : Run} {answers : ℕ} (g : Grounds (z .list) (z .table) (z .sizes) 
     unfolding recordAt rulesOf
     word-roomy is =
         let n = ahead (z .list) (z .table) (z .sizes) _ g c (at z k u) alive b (x .stands .kept) in
-        let f = numbers (z .list) (z .table) (z .sizes) _ g c (at z k u) alive in
+        let f = numbers g alive in
         let m = marks-words c (u .left) (u .marks) in
         subst (λ (y : Rules). Roomy y (z .row) answers u b) (sym (is (x .command .second))) (record {
           row-formed = answered .formed;

@@ -69,28 +69,20 @@ grounds-at {list} {table} {s} e g = subst (Grounds list table s) (sym e) g
 
 -- A reply ----------------------------------------------------------------------------------------------------------------
 
-module _ (list table : List ℕ) (s : Sizes) (room : ℕ) (g : Grounds list table s room) (c : Command) (r : Record)
-    (al : Alive (planBy list s) c r) where
+module _ {list table : List ℕ} {s : Sizes} {room : ℕ} (g : Grounds list table s room) {c : Command} {r : Record} (al : Alive (planBy list s) c r) where
   pub numbers : FitNumbers (planBy list s) r c
   numbers = fits-numbers (planBy list s) (grounds-sound list table s room g) r (al .fit) (al .waits)
 
-  pub ready : (b : List ℕ) → length b ≡ room → Ready c r b
-  ready b e = ready-here list table s (g .counts) room (g .outgoing) (g .prepared) r c (al .rest) (al .waits) (al .fit) b e
-
-  -- the walk behind its instruction
-  abbrev behind : List Visit
-  behind = restFrom list (s .count) (spotAfter (r .spot))
-
-  pub walk-behind : (OnWalk list (s .count) (spotAfter (r .spot))) × (behind ≡ al .rest)
+  -- the walk behind its instruction, with room behind the last word
+  pub walk-behind : (OnWalk list (s .count) (spotAfter (r .spot))) × (restFrom list (s .count) (spotAfter (r .spot)) ≡ al .rest)
   walk-behind = on-next list table s (g .counts) room (g .outgoing) (g .prepared) r c (al .rest) (al .waits)
 
-  -- which has room behind the last word
   pub last-going : (r′ : Record) (b : List ℕ) → r .left ≡ 1 → r′ .marks ≡ moved c (r .marks) → length b ≡ room
       → Going list (s .count) (spotAfter (r .spot)) r′ b
   last-going = going-next list table s (g .counts) room (g .outgoing) (g .prepared) r c (al .rest) (al .waits) (al .fit)
 
   module _ (reply : Reply) (b : List ℕ) (t : List ℕ → State)
-      (e : (out : List ℕ) → takeReply (s .limit) behind c reply (stateOf r b out) ≡ t out) where
+      (e : (out : List ℕ) → takeReply (s .limit) (restFrom list (s .count) (spotAfter (r .spot))) c reply (stateOf r b out) ≡ t out) where
     took : (out : List ℕ) → takeAt (planBy list s) reply (stateOf r b out) ≡ t out
     unfolding takeAt takeFrom
     took out =
@@ -108,7 +100,15 @@ module _ (list table : List ℕ) (s : Sizes) (room : ℕ) (g : Grounds list tabl
     took-goes row at h er out =
         row-turn row at (planBy list s) (stateOf r b out) reply h (numbers .waits) er ∙ ap (rowFrom (planBy list s) row (at + 8)) (took out)
 
-  -- as code takes it
+-- as code takes it
+module _ (list table : List ℕ) (s : Sizes) (room : ℕ) (g : Grounds list table s room) (c : Command) (r : Record)
+    (al : Alive (planBy list s) c r) where
+  abbrev behind : List Visit
+  behind = restFrom list (s .count) (spotAfter (r .spot))
+
+  pub ready : (b : List ℕ) → length b ≡ room → Ready c r b
+  ready b e = ready-here list table s (g .counts) room (g .outgoing) (g .prepared) r c (al .rest) (al .waits) (al .fit) b e
+
   module _ (reply : Reply) (b b′ : List ℕ) (eb : b′ ≡ hereBuffer (s .limit) c reply r b) (taken : Taken)
       (et : taken ≡ hereRun (s .limit) c reply r) where
     -- behind the last word the run has room for the rest of the walk
@@ -119,7 +119,7 @@ module _ (list table : List ℕ) (s : Sizes) (room : ℕ) (g : Grounds list tabl
         by (Same x) q = tt
         by (Through x) q =
             let w = through (s .limit) c reply r x (sym q) in
-            subst (λ (k : Spot). Going list (s .count) (spotAfter k) x b′) (sym (w .spot)) (last-going x b′ (w .last) (w .marks) e)
+            subst (λ (k : Spot). Going list (s .count) (spotAfter k) x b′) (sym (w .spot)) (last-going g al x b′ (w .last) (w .marks) e)
         by (Ended x) q = tt
 
     rest-behind : (out : List ℕ)
@@ -139,14 +139,14 @@ module _ (list table : List ℕ) (s : Sizes) (room : ℕ) (g : Grounds list tabl
           → stateOf next b″ out ≡ resumed (restFrom list (s .count) (spotAfter (recordIn taken .spot))) taken b′ out)
           → Moves (planBy list s) row r at b next (at + 8) b″
       moves next b″ en = record {
-        stage = took-stage reply b (stateOf next b″) as-here;
+        stage = took-stage g al reply b (stateOf next b″) as-here;
         formed = formed-here row at f h .behind;
-        goes = took-goes reply b (stateOf next b″) as-here row at h er;
+        goes = took-goes g al reply b (stateOf next b″) as-here row at h er;
       }
         where
           as-here : (out : List ℕ) → takeReply (s .limit) behind c reply (stateOf r b out) ≡ stateOf next b″ out
           as-here out =
-              take-here (s .limit) behind c reply r b out (numbers .left-least)
+              take-here (s .limit) behind c reply r b out (numbers g al .left-least)
               ∙ ap₂ (λ (t : Taken) (x : List ℕ). resumed behind t x out) (sym et) (sym eb) ∙ rest-behind out ∙ sym (en out)
 
 -- An instruction ---------------------------------------------------------------------------------------------------------

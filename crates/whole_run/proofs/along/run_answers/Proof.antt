@@ -13,8 +13,8 @@ use Rattle.whole_run.proofs.along.run_answers.Tie as tie
 
 abbrev Inv-loop : tie.InvT-loop
 Inv-loop list table sizes from incoming₀ row answers spot₀ begin longword₀ here₀ incoming spot longword here =
-    (r : Record) → BeforeWord (record { list = list; table = table; sizes = sizes; row = row; before = r; from = from; buffer = incoming₀ }) longword₀ spot₀ here₀ incoming₀
-    → BeforeWord (record { list = list; table = table; sizes = sizes; row = row; before = r; from = from; buffer = incoming₀ }) longword spot here incoming
+    (r : Record) → let z : Run = record { list = list; table = table; sizes = sizes; row = row; before = r; from = from; buffer = incoming₀ } in
+    BeforeWord z longword₀ spot₀ here₀ incoming₀ → BeforeWord z longword spot here incoming
 
 abbrev μ-loop : tie.MeasureT-loop
 μ-loop list table sizes from incoming₀ row answers spot₀ begin longword₀ here₀ incoming spot longword here = length row - here .taken * 8
