@@ -14,6 +14,7 @@ use Rattle.base.specs.Checks.{if_then_else_}
 use Rattle.base.proofs.Tests.{on}
 use Rattle.camac.specs.Words.{qmodeOf, directionOf}
 use Rattle.qmodes.specs.Scan.{afterDone, afterOther}
+use Rattle.qmodes.specs.declared.scan.Moved.the-variants.{At}
 use Rattle.qmodes.specs.Modes.{done, leftAfter, spent, ranOff, leaves, scanLeaves, triesAfter, positionAfter}
 use Rattle.qmodes.specs.model.Answers.{canWait, wordsAhead, placeAfterWords, placeAfterWait}
 use Rattle.qmodes.specs.declared.modes.Answer.{Answer}
@@ -34,7 +35,6 @@ use Rattle.reply.specs.declared.records.Record.{Record}
 use Rattle.reply.specs.declared.replies.Reply.{Reply}
 use Rattle.reply.specs.declared.replies.Reply.the-variants.{Answered}
 use Rattle.reply.proofs.CodeCases.{NoCause, no-causes}
-use Rattle.take.specs.model.Here.{movedIf, bytesIf}
 use Rattle.take.proofs.Onward.{Alike, runs-alike}
 use Rattle.row.specs.model.Words.{Answered as Read, longwordIn, flagsAt, flagBits, gatheredBits, wordsStored, answerBy}
 use Rattle.row.proofs.BitLaws.{or-assoc}
@@ -46,27 +46,27 @@ use Rattle.answers.proofs.VisitRoom.{ahead-most, bytes-length}
 
 -- Positions --------------------------------------------------------------------------------------------------------------
 
-done-next : (n : ℕ) → n < 0x17F → (ranOff (afterDone (positionAt n)) ≡ false) × (positionAfter Scan true (positionAt n) ≡ positionAt (n + 1))
-unfolding afterDone afterOther positionAfter
+done-next : (n : ℕ) → n < 0x17F → afterDone (positionAt n) ≡ At (positionAt (n + 1))
+unfolding afterDone afterOther
 done-next n h =
     on (ltb (n % 16) 15)
     (λ e. let low = ltb-true (n % 16) 15 e in
     let s : n / 16 ≡ (n + 1) / 16 = omega arith in
     let a : n % 16 + 1 ≡ (n + 1) % 16 = omega arith in
-    (rw e, rw e (λ i. record { station = s i; subaddress = a i })))
+    rw (e, s, a))
     (λ e. let high = ltb-false (n % 16) 15 e in
     let t : ltb (n / 16) 23 ≡ true = lt-ltb (n / 16) 23 (omega arith) in
     let s : n / 16 + 1 ≡ (n + 1) / 16 = omega arith in
     let a : 0 ≡ (n + 1) % 16 = omega arith in
-    (rw (e, t), rw (e, t) (λ i. record { station = s i; subaddress = a i })))
+    rw (e, t, s, ← a))
 
-other-next : (n : ℕ) → n < 0x170 → (ranOff (afterOther (positionAt n)) ≡ false) × (positionAfter Scan false (positionAt n) ≡ positionAt ((n / 16 + 1) * 16))
-unfolding afterOther positionAfter
+other-next : (n : ℕ) → n < 0x170 → afterOther (positionAt n) ≡ At (positionAt ((n / 16 + 1) * 16))
+unfolding afterOther
 other-next n h =
     let t : ltb (n / 16) 23 ≡ true = lt-ltb (n / 16) 23 (omega arith) in
-    let s : n / 16 + 1 ≡ (n / 16 + 1) * 16 / 16 = omega arith in
-    let a : 0 ≡ (n / 16 + 1) * 16 % 16 = omega arith in
-    (rw t, rw t (λ i. record { station = s i; subaddress = a i }))
+    let s : (n / 16 + 1) * 16 / 16 ≡ n / 16 + 1 = omega arith in
+    let a : (n / 16 + 1) * 16 % 16 ≡ 0 = omega arith in
+    rw (t, s, a)
 
 -- a word that is not the last has a place for the next
 next-place : (n left : ℕ) → 1 ≤ wordsAhead Scan n left → ¬ (left - 1 ≡ 0) → n < 0x17F
@@ -90,8 +90,8 @@ module _ (limit : ℕ) (a : Answer) (tries n left : ℕ) where
   word-onward Scan d h = record {
     unspent = refl;
     stays = on (eqb (left - 1) 0) (λ e. rw (d, e) (and-false (ranOff (afterDone (positionAt n)))))
-        (λ e. rw (d, done-next n (next-place n left h (eqb-false (left - 1) 0 e)) .0));
-    position = λ more. done-next n (next-place n left h more) .1;
+        (λ e. rw (d, done-next n (next-place n left h (eqb-false (left - 1) 0 e))));
+    position = λ more. rw (done-next n (next-place n left h more));
   }
 
   wait-onward : (q : QMode) → done q a ≡ false → canWait q limit tries n ≡ true → Onward limit q a tries n left false (placeAfterWait q n)
@@ -104,7 +104,7 @@ module _ (limit : ℕ) (a : Answer) (tries n left : ℕ) where
     position = λ more. refl;
   }
   wait-onward Scan d h =
-      let next = other-next n (ltb-true n 0x170 h) in record { unspent = refl; stays = rw (d, next .0); position = λ more. next .1 }
+      let next = other-next n (ltb-true n 0x170 h) in record { unspent = refl; stays = rw (d, next); position = λ more. rw next }
 
 tries-none : (q : QMode) (tries : ℕ) → triesAfter q true tries ≡ 0
 unfolding triesAfter
@@ -127,47 +127,6 @@ module _ (rest : List Visit) (s : State) where
   pub standing-through : s .run .left ≡ 0 → standing rest s ≡ runOn rest s
   unfolding standing
   standing-through e = rw (eq-eqb (s .run .left) 0 e)
-
--- an answer that is no cause taken at r, with its word moved or not, leaves v
-record Leaves (limit : ℕ) (c : Command) (a : Answer) (d : Bool) (r v : Record) : Type 0 where
-  no-cause : NoCause limit c r a
-  told : done (qmodeOf (c .transfer)) a ≡ d
-  alike : Alike (movedIf d c (counted limit c (Answered a) r)) v
-  waits : false ≡ v .ended
-  spot : movedIf d c (counted limit c (Answered a) r) .spot ≡ v .spot
-  left : leftAfter d (r .left) ≡ v .left
-  tries : triesAfter (qmodeOf (c .transfer)) d (r .tries) ≡ v .tries
-  position : ¬ (leftAfter d (r .left) ≡ 0) → positionAfter (qmodeOf (c .transfer)) d (r .position) ≡ v .position
-
-module _ {limit : ℕ} {c : Command} {a : Answer} {r v : Record} (rest : List Visit) (h : Halts rest) (x out : List ℕ) where
-  stands : (d : Bool) → Leaves limit c a d r v → (y : List ℕ)
-      → (if eqb (leftAfter d (r .left)) 0 then runOn rest (stateOf (movedIf d c (counted limit c (Answered a) r)) y out)
-      else stateOf (waiting (leftAfter d (r .left)) (triesAfter (qmodeOf (c .transfer)) d (r .tries))
-      (positionAfter (qmodeOf (c .transfer)) d (r .position)) (movedIf d c (counted limit c (Answered a) r))) y out)
-      ≡ standing rest (stateOf v y out)
-  unfolding standing waiting
-  stands d l y =
-      let same : eqb (leftAfter d (r .left)) 0 ≡ eqb (v .left) 0 = ap (λ (n : ℕ). eqb n 0) (l .left) in
-      on (eqb (v .left) 0)
-      (λ e. rw (same, e) (runs-alike rest h (movedIf d c (counted limit c (Answered a) r)) v (l .alike) y out))
-      (λ e. rw (same, e) (λ i. stateOf (record {
-        ended = l .waits i;
-        spot = l .spot i;
-        left = l .left i;
-        tries = l .tries i;
-        position = l .position (eqb-false (leftAfter d (r .left)) 0 (same ∙ e)) i;
-        marks = l .alike .marks i;
-        operations = l .alike .operations i;
-        status = l .alike .status i;
-        note = l .alike .note i;
-      }) y out))
-
-  answer-stands : (d : Bool) → Leaves limit c a d r v
-      → takeReply limit rest c (Answered a) (stateOf r x out)
-      ≡ standing rest (stateOf v (bytesIf d c (longwordOf (Answered a)) (r .marks .incoming) x) out)
-  unfolding takeReply byCauses goOn moveWord counted
-  answer-stands true l = rw (no-causes (l .no-cause), l .told) (stands true l (movedBytes c (longwordOf (Answered a)) (r .marks .incoming) x))
-  answer-stands false l = rw (no-causes (l .no-cause), l .told) (stands false l x)
 
 -- One word in the closed form --------------------------------------------------------------------------------------------
 
@@ -243,30 +202,12 @@ module _ {row : List ℕ} {answers : ℕ} (read : Read row answers) (limit : ℕ
       ∙ ap (λ (j : ℕ). bitOr (r .status) (gatheredBits row from j)) one
 
   module _ (w : Words (rulesOf c) row answers u 1) where
-    word-moves : Leaves limit c answer true (at u) (at (afterWords (rulesOf c) 1 u))
-    unfolding recordAt movedRecord counted afterWords rulesOf moved
-    word-moves =
-        let t = flags-word word (qmodeOf (c .transfer)) (c .ad) (flagsAt row (u .taken)) few (first-word _ row (u .taken) (w .are)) in
-        let o = word-onward limit answer (u .tries) (u .position) (u .left) (qmodeOf (c .transfer)) (t .1) (w .ahead) in
-        record {
-          no-cause = no-cause (t .0) o;
-          told = t .1;
-          alike = record {
-            marks = marks-one (directionOf (c .transfer)) (c .wide) (u .marks);
-            operations = operations;
-            status = status (no-cause (t .0) o);
-            note = note-one (directionOf (c .transfer)) (c .wide) _;
-          };
-          waits = refl;
-          spot = refl;
-          left = refl;
-          tries = tries-none (qmodeOf (c .transfer)) (u .tries);
-          position = o .position;
-        }
+    abbrev after : Stay
+    after = afterWords (rulesOf c) 1 u
 
-    word-bytes : movedBytes c (longwordOf (Answered answer)) (at u .marks .incoming) x ≡ bytesAfter (rulesOf c) row 1 u x
+    bytes : movedBytes c (longwordOf (Answered answer)) (at u .marks .incoming) x ≡ bytesAfter (rulesOf c) row 1 u x
     unfolding movedBytes rulesOf recordAt bytesAfter wordsStored markAfterWords
-    word-bytes = go (directionOf (c .transfer))
+    bytes = go (directionOf (c .transfer))
       where
         go : (d : Direction) → storedBy d (c .wide) (longwordOf (Answered answer)) (u .marks .incoming) x ≡ bytesBy d (c .wide) row (u .taken) (u .marks .incoming) 1 x
         go Incoming =
@@ -276,7 +217,21 @@ module _ {row : List ℕ} {answers : ℕ} (read : Read row answers) (limit : ℕ
         go Outgoing = refl
         go Neither = refl
 
-    pub word-leads : Leads limit c r row from k u x (afterWords (rulesOf c) 1 u) (bytesAfter (rulesOf c) row 1 u x)
+    word-takes : (rest : List Visit) → Halts rest → (out : List ℕ)
+        → takeReply limit rest c (Answered answer) (stateOf (at u) x out) ≡ standing rest (stateOf (at after) (bytesAfter (rulesOf c) row 1 u x) out)
+    unfolding takeReply byCauses goOn moveWord standing waiting recordAt movedRecord counted afterWords rulesOf moved
+    word-takes rest halt out =
+        let t = flags-word word (qmodeOf (c .transfer)) (c .ad) (flagsAt row (u .taken)) few (first-word _ row (u .taken) (w .are)) in
+        let o = word-onward limit answer (u .tries) (u .position) (u .left) (qmodeOf (c .transfer)) (t .1) (w .ahead) in
+        let n = no-cause (t .0) o in
+        let marks = marks-one (directionOf (c .transfer)) (c .wide) (u .marks) in
+        let note = note-one (directionOf (c .transfer)) (c .wide) _ in
+        rw (no-causes n, t .1, ← bytes)
+        (on (eqb (u .left - 1) 0)
+        (λ e. rw e (runs-alike rest halt _ _ (record { marks = marks; operations = operations; status = status n; note = note }) _ out))
+        (λ e. rw (e, note, tries-none (qmodeOf (c .transfer)) (u .tries), o .position (eqb-false (u .left - 1) 0 e), marks, operations, status n)))
+
+    pub word-leads : Leads limit c r row from k u x after (bytesAfter (rulesOf c) row 1 u x)
     unfolding afterWords rulesOf moved
     word-leads = record {
       inside = h;
@@ -287,26 +242,19 @@ module _ {row : List ℕ} {answers : ℕ} (read : Read row answers) (limit : ℕ
       left = omega arith;
       last = λ e. sym (marks-one (directionOf (c .transfer)) (c .wide) (u .marks));
       kept = bytes-length (rulesOf c) row 1 u x;
-      takes = λ rest halt out. answer-stands rest halt x out true word-moves
-          ∙ ap (λ (y : List ℕ). standing rest (stateOf (at (afterWords (rulesOf c) 1 u)) y out)) word-bytes;
+      takes = word-takes;
     }
 
   module _ (w : Waits (rulesOf c) limit row answers u) where
-    wait-moves : Leaves limit c answer false (at u) (at (afterWait (rulesOf c) u))
-    unfolding recordAt counted afterWait rulesOf
-    wait-moves =
+    wait-takes : (rest : List Visit) (out : List ℕ)
+        → takeReply limit rest c (Answered answer) (stateOf (at u) x out) ≡ standing rest (stateOf (at (afterWait (rulesOf c) u)) x out)
+    unfolding takeReply byCauses goOn standing waiting recordAt counted afterWait rulesOf
+    wait-takes rest out =
         let t = flags-wait word (qmodeOf (c .transfer)) (c .ad) limit (u .tries) (u .position) (w .tried) (flagsAt row (u .taken)) few (w .no-word) (w .judged) in
         let o = wait-onward limit answer (u .tries) (u .position) (u .left) (qmodeOf (c .transfer)) (t .1) (w .tried) in
-        record {
-          no-cause = no-cause (t .0) o;
-          told = t .1;
-          alike = record { marks = refl; operations = operations; status = status (no-cause (t .0) o); note = refl };
-          waits = refl;
-          spot = refl;
-          left = refl;
-          tries = refl;
-          position = o .position;
-        }
+        let n = no-cause (t .0) o in
+        let more : ¬ (u .left ≡ 0) = λ e. omega (arith, w .some) in
+        rw (no-causes n, t .1, ne-eqb (u .left) 0 more, o .position more, operations, status n)
 
     pub wait-leads : Leads limit c r row from k u x (afterWait (rulesOf c) u) x
     unfolding afterWait
@@ -319,5 +267,5 @@ module _ {row : List ℕ} {answers : ℕ} (read : Read row answers) (limit : ℕ
       left = omega arith;
       last = λ e. absurd (omega (arith, w .some));
       kept = refl;
-      takes = λ rest halt out. answer-stands rest halt x out false wait-moves;
+      takes = λ rest halt out. wait-takes rest out;
     }

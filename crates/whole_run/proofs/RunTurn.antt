@@ -26,6 +26,7 @@ use Rattle.listfile.specs.declared.field.Instruction.the-variants.{Camac, Halt}
 use Rattle.listfile.specs.declared.field.Tag.{Tag}
 use Rattle.listfile.specs.declared.field.Tag.the-variants.{CamacTag, JumpTag, LiteralTag, HaltTag, UnknownTag}
 use Rattle.walk.specs.Walk.{spotAfter, Visit, movedWords}
+use Rattle.walk.specs.Admission.{Plan}
 use Rattle.walk.specs.model.Sums.{restFrom, planBy}
 use Rattle.walk.specs.declared.visits.Spot.{Spot}
 use Rattle.walk.proofs.Halting.{halts}
@@ -168,6 +169,12 @@ pub record Run : Type 0 where
   pub buffer : List ℕ
 
 module _ (z : Run) where
+  abbrev plan : Plan
+  plan = planBy (z .list) (z .sizes)
+
+  abbrev Admitted : Type 0
+  Admitted = Grounds (z .list) (z .table) (z .sizes) (length (z .buffer))
+
   abbrev at : Spot → Stay → Record
   at k u = recordAt (z .before) (z .row) (z .from) k u
 
@@ -180,7 +187,7 @@ module _ (z : Run) where
 
   -- the run moved to a record before a reply
   abbrev MovedTo : Record → ℕ → List ℕ → Type 0
-  MovedTo r taken b = Moves (planBy (z .list) (z .sizes)) (z .row) (z .before) (z .from * 8) (z .buffer) r (taken * 8) b
+  MovedTo r taken b = Moves plan (z .row) (z .before) (z .from * 8) (z .buffer) r (taken * 8) b
 
 -- it stands at a stay
 pub record Standing (z : Run) (k : Spot) (u : Stay) (b : List ℕ) : Type 0 where
@@ -188,9 +195,9 @@ pub record Standing (z : Run) (k : Spot) (u : Stay) (b : List ℕ) : Type 0 wher
   pub formed : FormedFrom (z .row) (u .taken * 8)
   pub kept : length b ≡ length (z .buffer)
   pub behind : u .left ≡ 0 → Ahead (z .list) (z .sizes .count) (spotAfter k) (u .marks) b
-  pub stage : Stage (planBy (z .list) (z .sizes)) (stood z k u b [] .run)
-  pub goes : (out : List ℕ) → rowFrom (planBy (z .list) (z .sizes)) (z .row) (z .from * 8) (stateOf (z .before) (z .buffer) out)
-      ≡ rowFrom (planBy (z .list) (z .sizes)) (z .row) (u .taken * 8) (stood z k u b out)
+  pub stage : Stage (plan z) (stood z k u b [] .run)
+  pub goes : (out : List ℕ) → rowFrom (plan z) (z .row) (z .from * 8) (stateOf (z .before) (z .buffer) out)
+      ≡ rowFrom (plan z) (z .row) (u .taken * 8) (stood z k u b out)
 
 -- before a word of the instruction with a first longword
 pub record BeforeWord (z : Run) (first : ℕ) (k : Spot) (u : Stay) (b : List ℕ) : Type 0 where
@@ -203,9 +210,9 @@ pub record BeforeWord (z : Run) (first : ℕ) (k : Spot) (u : Stay) (b : List �
 moved-to : {z : Run} {k : Spot} {u : Stay} {b y : List ℕ} {m : Record} → Standing z k u b → ((out : List ℕ) → stood z k u b out ≡ stateOf m y out)
     → MovedTo z m (u .taken) y
 moved-to {z} {u = u} x e = record {
-  stage = subst (λ (t : State). Stage (planBy (z .list) (z .sizes)) (t .run)) (e []) (x .stage);
+  stage = subst (λ (t : State). Stage (plan z) (t .run)) (e []) (x .stage);
   formed = x .formed;
-  goes = λ out. x .goes out ∙ ap (rowFrom (planBy (z .list) (z .sizes)) (z .row) (u .taken * 8)) (e out);
+  goes = λ out. x .goes out ∙ ap (rowFrom (plan z) (z .row) (u .taken * 8)) (e out);
 }
 
 module _ (z : Run) (k : Spot) (u : Stay) (b : List ℕ) where
@@ -213,63 +220,63 @@ module _ (z : Run) (k : Spot) (u : Stay) (b : List ℕ) where
   unfolding recordAt
   waits-here some out = standing-waits _ (stateOf (at z k u) b out) some
 
-  module _ (g : Grounds (z .list) (z .table) (z .sizes) (length (z .buffer))) (c : Command) (is : instruction z k ≡ Camac c) where
-    moved-alive : MovedTo z (at z k u) (u .taken) b → Alive (planBy (z .list) (z .sizes)) c (at z k u)
-    unfolding recordAt
-    moved-alive m = decoded-as (z .list) (z .table) (z .sizes) _ g (at z k u) (m .stage) refl (instruction z k) refl c is
+  moved-alive : Admitted z → (c : Command) → instruction z k ≡ Camac c → MovedTo z (at z k u) (u .taken) b → Alive (plan z) c (at z k u)
+  unfolding recordAt
+  moved-alive g c is m = decoded-as (z .list) (z .table) (z .sizes) _ g (at z k u) (m .stage) refl (instruction z k) refl c is
 
-    -- moved to the record of a stay, it stands before its word
-    before-word : {first words : ℕ} → MovedTo z (at z k u) (u .taken) b → AtCommand (instruction z k) first words → z .from ≤ u .taken
-        → length b ≡ length (z .buffer) → BeforeWord z first k u b
+  -- moved to the record of a stay, it stands before its word
+  before-word : {first words : ℕ} → Admitted z → AtCommand (instruction z k) first words → MovedTo z (at z k u) (u .taken) b → z .from ≤ u .taken
+      → length b ≡ length (z .buffer) → BeforeWord z first k u b
+  unfolding recordAt
+  before-word {first} {words} g a m onward kept =
+      let some : 1 ≤ u .left = numbers g (moved-alive g (commandIn first (a .second)) (a .is) m) .left-least in
+      record {
+        words = words;
+        command = a;
+        some = some;
+        stands = record {
+          onward = onward;
+          formed = m .formed;
+          kept = kept;
+          behind = λ e. absurd (omega arith);
+          stage = rw (waits-here some []) (m .stage);
+          goes = λ out. m .goes out ∙ ap (rowFrom (plan z) (z .row) (u .taken * 8)) (sym (waits-here some out));
+        };
+      }
+
+  -- one answer
+  module _ (g : Admitted z) (c : Command) (is : instruction z k ≡ Camac c) (x : Standing z k u b) {v : Stay} {y : List ℕ}
+      (l : Leads (z .sizes .limit) c (z .before) (z .row) (z .from) k u b v y) where
+    al : Alive (plan z) c (at z k u)
+    al = moved-alive g c is (moved-to x (waits-here (l .some)))
+
+    takes : (out : List ℕ)
+        → takeReply (z .sizes .limit) (restFrom (z .list) (z .sizes .count) (spotAfter (at z k u .spot))) c (l .reply) (stateOf (at z k u) b out)
+        ≡ stood z k v y out
     unfolding recordAt
-    before-word {words = words} m a onward kept =
-        let some : 1 ≤ u .left = numbers g (moved-alive m) .left-least in
+    takes out = l .takes _ (halts (walk-behind g al .0 .walk)) out
+
+    standing-answer : Standing z k v y
+    unfolding recordAt
+    standing-answer =
+        let next : u .taken * 8 + 8 ≡ v .taken * 8 = omega (arith, l .taken) in
+        let kept = l .kept ∙ x .kept in
         record {
-          words = words;
-          command = a;
-          some = some;
-          stands = record {
-            onward = onward;
-            formed = m .formed;
-            kept = kept;
-            behind = λ e. absurd (omega arith);
-            stage = subst (λ (t : State). Stage (planBy (z .list) (z .sizes)) (t .run)) (sym (waits-here some [])) (m .stage);
-            goes = λ out. m .goes out ∙ ap (rowFrom (planBy (z .list) (z .sizes)) (z .row) (u .taken * 8)) (sym (waits-here some out));
-          };
+          onward = omega (arith, l .taken, x .onward);
+          formed = subst (FormedFrom (z .row)) next (formed-here (z .row) (u .taken * 8) (x .formed) (l .inside) .behind);
+          kept = kept;
+          behind = λ e.
+              let w = last-going g al (at z k v) y (omega (arith, l .some, l .left)) (l .last e) kept in
+              record { on = w .on; room = w .room };
+          stage = took-stage g al (l .reply) b (stood z k v y) takes;
+          goes = λ out. moved-to x (waits-here (l .some)) .goes out
+              ∙ took-goes g al (l .reply) b (stood z k v y) takes (z .row) (u .taken * 8) (l .inside) (l .is) out
+              ∙ ap (λ (n : ℕ). rowFrom (plan z) (z .row) n (stood z k v y out)) next;
         }
-
-    -- one answer
-    module _ (x : Standing z k u b) {v : Stay} {y : List ℕ} (l : Leads (z .sizes .limit) c (z .before) (z .row) (z .from) k u b v y) where
-      al : Alive (planBy (z .list) (z .sizes)) c (at z k u)
-      al = moved-alive (moved-to x (waits-here (l .some)))
-
-      takes : (out : List ℕ)
-          → takeReply (z .sizes .limit) (restFrom (z .list) (z .sizes .count) (spotAfter (at z k u .spot))) c (l .reply) (stateOf (at z k u) b out)
-          ≡ stood z k v y out
-      unfolding recordAt
-      takes out = l .takes _ (halts (walk-behind g al .0 .walk)) out
-
-      standing-answer : Standing z k v y
-      unfolding recordAt
-      standing-answer =
-          let next : u .taken * 8 + 8 ≡ v .taken * 8 = omega (arith, l .taken) in
-          let kept = l .kept ∙ x .kept in
-          record {
-            onward = omega (arith, l .taken, x .onward);
-            formed = subst (FormedFrom (z .row)) next (formed-here (z .row) (u .taken * 8) (x .formed) (l .inside) .behind);
-            kept = kept;
-            behind = λ e.
-                let w = last-going g al (at z k v) y (omega (arith, l .some, l .left)) (l .last e) kept in
-                record { on = w .on; room = w .room };
-            stage = took-stage g al (l .reply) b (stood z k v y) takes;
-            goes = λ out. moved-to x (waits-here (l .some)) .goes out
-                ∙ took-goes g al (l .reply) b (stood z k v y) takes (z .row) (u .taken * 8) (l .inside) (l .is) out
-                ∙ ap (λ (n : ℕ). rowFrom (planBy (z .list) (z .sizes)) (z .row) n (stood z k v y out)) next;
-          }
 
 -- Before a word --------------------------------------------------------------------------------------------------------------
 
-module _ {z : Run} {answers : ℕ} (g : Grounds (z .list) (z .table) (z .sizes) (length (z .buffer))) (answered : Answered (z .row) answers) where
+module _ {z : Run} {answers : ℕ} (g : Admitted z) (answered : Answered (z .row) answers) where
   module _ {first : ℕ} {k : Spot} {u : Stay} {b : List ℕ} (x : BeforeWord z first k u b) where
     abbrev c : Command
     c = commandIn first (x .command .second)
@@ -277,7 +284,7 @@ module _ {z : Run} {answers : ℕ} (g : Grounds (z .list) (z .table) (z .sizes) 
     waits : MovedTo z (at z k u) (u .taken) b
     waits = moved-to (x .stands) (waits-here z k u b (x .some))
 
-    alive : Alive (planBy (z .list) (z .sizes)) c (at z k u)
+    alive : Alive (plan z) c (at z k u)
     alive = moved-alive z k u b g c (x .command .is) waits
 
     -- it stops here
@@ -304,7 +311,7 @@ module _ {z : Run} {answers : ℕ} (g : Grounds (z .list) (z .table) (z .sizes) 
         let n = ahead (z .list) (z .table) (z .sizes) _ g c (at z k u) alive b (x .stands .kept) in
         let f = numbers g alive in
         let m = marks-words c (u .left) (u .marks) in
-        subst (λ (y : Rules). Roomy y (z .row) answers u b) (sym (is (x .command .second))) (record {
+        rw (is (x .command .second)) (record {
           row-formed = answered .formed;
           within = answered .within;
           taken = x .stands .formed .within;
@@ -327,13 +334,13 @@ module _ {z : Run} {answers : ℕ} (g : Grounds (z .list) (z .table) (z .sizes) 
             onward = λ h. h .0 .onward;
             next = λ h l. (standing-answer z k _ _ g c (x .command .is) (h .0) l, omega (arith, h .1, l .taken, l .left));
           })
-          (x .stands, omega arith) (subst (λ (o : Rules). Passed o (z .sizes .limit) (z .row) answers u b v y) (is (x .command .second)) p)
+          (x .stands, omega arith) (rw (is (x .command .second)) at p)
 
       pub word-on : ¬ (v .left ≡ 0) → BeforeWord z first k v y
       word-on h = record { words = x .words; command = x .command; some = omega arith; stands = words-passed .0 }
 
   -- where the loop begins
-  pub word-start : {place first : ℕ} {u : Stay} → FormedFrom (z .row) (z .from * 8) → Stage (planBy (z .list) (z .sizes)) (z .before)
+  pub word-start : {place first : ℕ} {u : Stay} → FormedFrom (z .row) (z .from * 8) → Stage (plan z) (z .before)
       → z .before .ended ≡ false → Waiting (z .list) (z .table) (z .before) place
       → (first ≡ firstAt (z .list) place) × Passes first → u ≡ stayOf (z .before) (z .from) → BeforeWord z first (z .before .spot) u (z .buffer)
   unfolding stayOf
@@ -341,11 +348,9 @@ module _ {z : Run} {answers : ℕ} (g : Grounds (z .list) (z .table) (z .sizes) 
       let second = secondAt (z .list) place in
       let is = w .is ∙ ap (λ (n : ℕ). Camac (commandIn n second)) (sym (p .0)) in
       let al = decoded-as (z .list) (z .table) (z .sizes) _ g (z .before) st ended _ refl (commandIn first second) is in
-      subst (λ (u : Stay). BeforeWord z first (z .before .spot) u (z .buffer)) (sym eu)
-      (before-word z (z .before .spot) (stayOf (z .before) (z .from)) (z .buffer) g (commandIn first second) is
-      (moves-as (planBy (z .list) (z .sizes)) (z .row) (stay-again g first second al (z .row) (z .from)) refl
-      (moves-none (planBy (z .list) (z .sizes)) (z .row) (z .before) (z .from * 8) (z .buffer) st f))
-      (record { second = second; passes = p .1; is = is; wanted = refl }) (omega arith) refl)
+      rw eu (before-word z (z .before .spot) (stayOf (z .before) (z .from)) (z .buffer) g (record { second = second; passes = p .1; is = is; wanted = refl })
+      (moves-as (plan z) (z .row) (stay-again g first second al (z .row) (z .from)) refl
+      (moves-none (plan z) (z .row) (z .before) (z .from * 8) (z .buffer) st f)) (omega arith) refl)
 
   -- Behind the last word -------------------------------------------------------------------------------------------------------
 
@@ -375,19 +380,7 @@ module _ {z : Run} {answers : ℕ} (g : Grounds (z .list) (z .table) (z .sizes) 
 
       arrives : waitsFor (x .spot) arriving carried ≡ at z (x .spot) (arrived arriving (x .marks) u)
       unfolding recordAt waitsFor arrived
-      arrives =
-          let position = sym (placed-again (positionOf (arriving .transfer)) (command-placed (x .first) (t .command q .second) .subaddress)) in
-          λ i. record {
-            ended = false;
-            spot = x .spot;
-            left = wordsOf (arriving .transfer);
-            tries = 0;
-            position = position i;
-            marks = x .marks;
-            operations = z .before .operations + (u .taken - z .from);
-            status = bitOr (z .before .status) (gatheredBits (z .row) (z .from) (u .taken - z .from));
-            note = u .note;
-          }
+      arrives = rw (placed-again (positionOf (arriving .transfer)) (command-placed (x .first) (t .command q .second) .subaddress))
 
       arrived-moves : MovedTo z (at z (x .spot) (arrived arriving (x .marks) u)) (u .taken) y
       unfolding runOn
@@ -405,15 +398,11 @@ module _ {z : Run} {answers : ℕ} (g : Grounds (z .list) (z .table) (z .sizes) 
         pub word-next : length y ≡ length b → BeforeWord z (x .first) (x .spot) v y
         unfolding arrived
         word-next kept =
-            subst (λ (w : Stay). BeforeWord z (x .first) (x .spot) w y) (sym is)
-            (before-word z (x .spot) (arrived arriving (x .marks) u) y g arriving (t .command q .is) arrived-moves (t .command q) (h .onward) (kept ∙ h .kept))
+            rw is (before-word z (x .spot) (arrived arriving (x .marks) u) y g (t .command q) arrived-moves (h .onward) (kept ∙ h .kept))
 
     -- the halt
     pub standing-halt : {v : Stay} → x .halted ≡ true → v ≡ between (x .marks) u
         → MovedTo z (stopRecord (z .before) (z .row) (z .from) (record { spot = x .spot; stay = v; halted = true })) (v .taken) y
         × ((z .from ≤ v .taken) × (v .position < 4096))
     unfolding runOn stopRecord recordAt endedAt between
-    standing-halt q ev =
-        subst (λ (v : Stay). MovedTo z (stopRecord (z .before) (z .row) (z .from) (record { spot = x .spot; stay = v; halted = true })) (v .taken) y
-        × ((z .from ≤ v .taken) × (v .position < 4096))) (sym ev)
-        (moved-to h (comes Halt (t .halt q)), (h .onward, omega arith))
+    standing-halt q ev = rw ev (moved-to h (comes Halt (t .halt q)), (h .onward, omega arith))
