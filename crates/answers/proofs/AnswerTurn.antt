@@ -35,7 +35,7 @@ use Rattle.reply.specs.declared.records.Record.{Record}
 use Rattle.reply.specs.declared.replies.Reply.{Reply}
 use Rattle.reply.specs.declared.replies.Reply.the-variants.{Answered}
 use Rattle.reply.proofs.CodeCases.{NoCause, no-causes}
-use Rattle.take.proofs.Onward.{Alike, runs-alike}
+use Rattle.take.proofs.Onward.{runs-alike}
 use Rattle.row.specs.model.Words.{Answered as Read, longwordIn, flagsAt, flagBits, gatheredBits, wordsStored, answerBy}
 use Rattle.row.proofs.BitLaws.{or-assoc}
 use Rattle.row.proofs.Flags.{Fine, flags-word, flags-wait}
@@ -225,10 +225,10 @@ module _ {row : List ℕ} {answers : ℕ} (read : Read row answers) (limit : ℕ
         let o = word-onward limit answer (u .tries) (u .position) (u .left) (qmodeOf (c .transfer)) (t .1) (w .ahead) in
         let n = no-cause (t .0) o in
         let marks = marks-one (directionOf (c .transfer)) (c .wide) (u .marks) in
-        let note = note-one (directionOf (c .transfer)) (c .wide) _ in
+        let note = note-one (directionOf (c .transfer)) (c .wide) (counted limit c (Answered answer) (at u)) in
         rw (no-causes n, t .1, ← bytes)
         (on (eqb (u .left - 1) 0)
-        (λ e. rw e (runs-alike rest halt _ _ (record { marks = marks; operations = operations; status = status n; note = note }) _ out))
+        (λ e. rw (e, note, marks, operations, status n) (runs-alike (at after) rest halt _ _ out))
         (λ e. rw (e, note, tries-none (qmodeOf (c .transfer)) (u .tries), o .position (eqb-false (u .left - 1) 0 e), marks, operations, status n)))
 
     pub word-leads : Leads limit c r row from k u x after (bytesAfter (rulesOf c) row 1 u x)

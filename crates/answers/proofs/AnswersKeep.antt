@@ -1,7 +1,7 @@
 -- What every answer keeps, the words and waits of a visit keep: k words are k times one word, since marks, bytes, place and note behind them are
 -- those of the last word taken behind the others.
 use Prim.Native.Nat.{ℕ, zero, suc, _+_, _-_, _*_, _%_, _≤_}
-use mathlib.Core.Path.{_≡_, refl, ap, _∙_, subst}
+use mathlib.Core.Path.{_≡_, refl, ap, subst}
 use mathlib.Core.Bool.{Bool}
 use mathlib.Core.List.{List}
 use native.Mathlib.Omega.{arith}
@@ -44,21 +44,10 @@ module _ (rules : Rules) (row : List ℕ) (answers : ℕ) (s : Stay) where
   after-more : (j : ℕ) → afterWords rules 1 (afterWords rules j s) ≡ afterWords rules (suc j) s
   unfolding afterWords
   after-more j =
+      let more : j + 1 ≡ suc j = omega arith in
       let taken : s .taken + j + 1 ≡ s .taken + suc j = omega arith in
       let left : s .left - j - 1 ≡ s .left - suc j = omega arith in
-      let more : j + 1 ≡ suc j = omega arith in
-      let marks = marks-add (rules .direction) (rules .wide) j 1 (s .marks)
-      ∙ ap (λ (n : ℕ). marksBehind (rules .direction) (rules .wide) n (s .marks)) more in
-      let note = ap (λ (m : Marks). noteBehind (rules .direction) (rules .wide) m (afterWords rules j s .note)) marks
-      ∙ note-once (rules .direction) (rules .wide) _ _ s in
-      λ i. record {
-        taken = taken i;
-        left = left i;
-        tries = 0;
-        position = place-add (rules .q) (s .position) j i;
-        marks = marks i;
-        note = note i;
-      }
+      rw (marks-add (rules .direction) (rules .wide) j 1 (s .marks), note-once (rules .direction) (rules .wide) _ _ s, place-add (rules .q) (s .position) j, taken, left, more)
 
   bytes-more : (j : ℕ) (b : List ℕ) → bytesAfter rules row 1 (afterWords rules j s) (bytesAfter rules row j s b) ≡ bytesAfter rules row (suc j) s b
   unfolding bytesAfter afterWords wordsStored markAfterWords
@@ -118,16 +107,16 @@ pub record Keeps (limit : ℕ) (c : Command) (r : Record) (row : List ℕ) (from
 
 module _ {limit : ℕ} {c : Command} {r : Record} {row : List ℕ} {answers from : ℕ} {k : Spot} {P : Stay → List ℕ → Type 0}
     (read : Answered row answers) (keeps : Keeps limit c r row from k P) where
-  one-kept : {u : Stay} {x : List ℕ} → P u x → Words (rulesOf c) row answers u 1 → P (afterWords (rulesOf c) 1 u) (bytesAfter (rulesOf c) row 1 u x)
-  one-kept {u} {x} p w = keeps .next p (word-leads read limit c r from k u (keeps .onward p) (w .answered) x w)
+  word-kept : {u : Stay} {x : List ℕ} → P u x → Words (rulesOf c) row answers u 1 → P (afterWords (rulesOf c) 1 u) (bytesAfter (rulesOf c) row 1 u x)
+  word-kept {u} {x} p w = keeps .next p (word-leads read limit c r from k u (keeps .onward p) (w .answered) x w)
 
   words-kept : {u : Stay} {x : List ℕ} → P u x → (j : ℕ) → Words (rulesOf c) row answers u (suc j)
       → P (afterWords (rulesOf c) (suc j) u) (bytesAfter (rulesOf c) row (suc j) u x)
-  words-kept p zero w = one-kept p w
+  words-kept p zero w = word-kept p w
   words-kept {u} {x} p (suc j) w =
       subst (λ (v : Stay). P v (bytesAfter (rulesOf c) row (suc (suc j)) u x)) (after-more (rulesOf c) row answers u (suc j))
       (subst (P (afterWords (rulesOf c) 1 (afterWords (rulesOf c) (suc j) u))) (bytes-more (rulesOf c) row answers u (suc j) x)
-      (one-kept (words-kept p j (words-before (rulesOf c) row answers u j w)) (words-behind (rulesOf c) row answers u (suc j) w)))
+      (word-kept (words-kept p j (words-before (rulesOf c) row answers u j w)) (words-behind (rulesOf c) row answers u (suc j) w)))
 
   pub passed-kept : {u v : Stay} {x y : List ℕ} → P u x → Passed (rulesOf c) limit row answers u x v y → P v y
   passed-kept p none = p

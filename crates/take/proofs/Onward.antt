@@ -1,7 +1,7 @@
 -- One visit of the walk is one unrolling of `runOn`: by the visit's instruction the run goes on, with its marks moved, or stays there. So the walk
 -- looks at marks, operations, status and note alone.
 use Prim.Native.Nat.{ℕ}
-use mathlib.Core.Path.{_≡_, refl, sym, ap, _∙_}
+use mathlib.Core.Path.{_≡_, refl, sym, ap}
 use mathlib.Core.Bool.{true}
 use mathlib.Core.List.{List, [], _∷_}
 use mathlib.Core.Option.{some}
@@ -9,7 +9,6 @@ use native.Mathlib.Omega.{arith}
 use lib.ListN.{length}
 use Rattle.camac.specs.declared.words.Direction.the-variants.{Incoming}
 use Rattle.packing.specs.Packing.{stored}
-use Rattle.packing.specs.declared.Marks.{Marks}
 use Rattle.packing.proofs.MarkFacts.{stored-length}
 use Rattle.listfile.specs.declared.field.Instruction.{Instruction}
 use Rattle.listfile.specs.declared.field.Instruction.the-variants.{Camac, Jump, Literal, Halt}
@@ -84,31 +83,29 @@ advance-length (Jump target) r incoming = refl
 advance-length (Literal v) r incoming = stored-length true v (r .marks .incoming) incoming
 advance-length Halt r incoming = refl
 
--- two records that the walk takes alike
-pub record Alike (r r′ : Record) : Type 0 where
-  pub marks : r .marks ≡ r′ .marks
-  pub operations : r .operations ≡ r′ .operations
-  pub status : r .status ≡ r′ .status
-  pub note : r .note ≡ r′ .note
+-- the record r at the place of another: the walk goes on from both alike
+abbrev pub atPlace : Record → Record → Record
+atPlace m r = record {
+  ended = m .ended;
+  spot = m .spot;
+  left = m .left;
+  tries = m .tries;
+  position = m .position;
+  marks = r .marks;
+  operations = r .operations;
+  status = r .status;
+  note = r .note;
+}
 
-pub runs-alike : (vs : List Visit) → Halts vs → (r r′ : Record) → Alike r r′ → (b out : List ℕ) → runOn vs (stateOf r b out) ≡ runOn vs (stateOf r′ b out)
+pub runs-alike : (m : Record) (vs : List Visit) → Halts vs → (r : Record) (b out : List ℕ) → runOn vs (stateOf r b out) ≡ runOn vs (stateOf (atPlace m r) b out)
 unfolding runOn waitsFor endedAt putLiteral
-runs-alike [] h r r′ a b out = absurd h
-runs-alike (v ∷ vs) h r r′ a b out = at (v .instruction) h (runs-alike vs)
+runs-alike m [] h r b out = absurd h
+runs-alike m (v ∷ vs) h r b out = at (v .instruction) h (runs-alike m vs)
   where
-    -- what a visit leaves of the first is the second's
-    blend : r ≡ record { ended = r .ended; spot = r .spot; left = r .left; tries = r .tries; position = r .position; marks = r′ .marks; operations = r′ .operations; status = r′ .status; note = r′ .note }
-    blend = λ i. record { ended = r .ended; spot = r .spot; left = r .left; tries = r .tries; position = r .position; marks = a .marks i; operations = a .operations i; status = a .status i; note = a .note i }
-
-    at : (i : Instruction) → Halts (record { spot = v .spot; place = v .place; instruction = i } ∷ vs)
-        → (Halts vs → (r r′ : Record) → Alike r r′ → (b out : List ℕ) → runOn vs (stateOf r b out) ≡ runOn vs (stateOf r′ b out))
-        → runOn (record { spot = v .spot; place = v .place; instruction = i } ∷ vs) (stateOf r b out)
-        ≡ runOn (record { spot = v .spot; place = v .place; instruction = i } ∷ vs) (stateOf r′ b out)
-    at (Camac c) h ih = ap (λ (z : Record). stateOf (waitsFor (v .spot) c z) b out) blend
-    at (Jump target) h ih = ih h r r′ a b out
-    at (Literal x) h ih =
-        ih h (withMarks (movedBy Incoming true (r .marks)) r) (withMarks (movedBy Incoming true (r′ .marks)) r′)
-        (record { marks = ap (movedBy Incoming true) (a .marks); operations = a .operations; status = a .status; note = a .note })
-        (stored true x (r .marks .incoming) b) out
-        ∙ ap (λ (m : Marks). runOn vs (stateOf (withMarks (movedBy Incoming true (r′ .marks)) r′) (stored true x (m .incoming) b) out)) (a .marks)
-    at Halt h ih = ap (λ (z : Record). stateOf (endedAt (v .spot) 0 z) b out) blend
+    at : (i : Instruction) → Halts (visitOf (v .spot) (v .place) i ∷ vs)
+        → (Halts vs → (r : Record) (b out : List ℕ) → runOn vs (stateOf r b out) ≡ runOn vs (stateOf (atPlace m r) b out))
+        → runOn (visitOf (v .spot) (v .place) i ∷ vs) (stateOf r b out) ≡ runOn (visitOf (v .spot) (v .place) i ∷ vs) (stateOf (atPlace m r) b out)
+    at (Camac c) h ih = refl
+    at (Jump target) h ih = ih h r b out
+    at (Literal x) h ih = ih h (withMarks (movedBy Incoming true (r .marks)) r) (stored true x (r .marks .incoming) b) out
+    at Halt h ih = refl

@@ -5,7 +5,7 @@ use mathlib.Core.Path.{_≡_, refl, sym, ap, _∙_, subst}
 use mathlib.Core.Bool.{true, false}
 use mathlib.Core.List.{List, [], _∷_}
 use native.Mathlib.Omega.{arith}
-use lib.Bits.{bitOr, or-zero-r}
+use lib.Bits.{or-zero-r}
 use lib.ListN.{length, getD}
 use Rattle.camac.specs.Words.{qmodeOf, addressIn, wordsOf, positionOf, directionOf, commandIn}
 use Rattle.camac.specs.model.Bits.{Passes}
@@ -43,7 +43,7 @@ use Rattle.answers.specs.model.Visit.{rulesOf, placeOf, positionAt, recordAt, m
 use Rattle.answers.specs.declared.Rules.{Rules}
 use Rattle.answers.specs.declared.Stay.{Stay}
 use Rattle.answers.proofs.AnswerTurn.{standing, standing-waits, standing-through, Leads}
-use Rattle.answers.proofs.AnswersKeep.{Keeps, passed-kept}
+use Rattle.answers.proofs.AnswersKeep.{passed-kept}
 use Rattle.whole_run.specs.model.Row.{rowFrom, Grounds, Stage, Moves}
 use Rattle.whole_run.specs.model.Along.{Ahead, Tabled, AtCommand, Reaches, arrived, between, stayOf, stopRecord}
 use Rattle.whole_run.specs.declared.along.Reached.{Reached}
@@ -139,22 +139,9 @@ module _ {list table : List ℕ} {s : Sizes} {room : ℕ} (g : Grounds list tabl
   stay-again : (row : List ℕ) (from : ℕ) → recordAt r row from (r .spot) (stayOf r from) ≡ r
   unfolding recordAt stayOf gatheredBits
   stay-again row from =
-      let ended : false ≡ r .ended = sym (numbers g al .waits) in
-      let none : 0 ≡ from - from = omega arith in
-      let operations : r .operations + (from - from) ≡ r .operations = omega arith in
-      let status : bitOr (r .status) (gatheredBits row from (from - from)) ≡ r .status =
-      ap (λ (n : ℕ). bitOr (r .status) (gatheredBits row from n)) (sym none) ∙ or-zero-r (r .status) in
-      λ i. record {
-        ended = ended i;
-        spot = r .spot;
-        left = r .left;
-        tries = r .tries;
-        position = placed-again (r .position) (alive-placed .subaddress) i;
-        marks = r .marks;
-        operations = operations i;
-        status = status i;
-        note = r .note;
-      }
+      let none : from - from ≡ 0 = omega arith in
+      let same : r .operations + 0 ≡ r .operations = omega arith in
+      rw (← numbers g al .waits, placed-again (r .position) (alive-placed .subaddress), none, same, or-zero-r (r .status))
 
 -- Where a run stands -------------------------------------------------------------------------------------------------------
 
@@ -206,29 +193,34 @@ pub record BeforeWord (z : Run) (first : ℕ) (k : Spot) (u : Stay) (b : List �
   pub some : 1 ≤ u .left
   pub stands : Standing z k u b
 
+-- or again before one
+pub word-again : {z : Run} {first : ℕ} {k : Spot} {u v : Stay} {b y : List ℕ} → BeforeWord z first k u b → Standing z k v y → ¬ (v .left ≡ 0)
+    → BeforeWord z first k v y
+word-again x h more = record { words = x .words; command = x .command; some = omega arith; stands = h }
+
 -- the state that a stay stands for is moved to
-moved-to : {z : Run} {k : Spot} {u : Stay} {b y : List ℕ} {m : Record} → Standing z k u b → ((out : List ℕ) → stood z k u b out ≡ stateOf m y out)
+standing-moves : {z : Run} {k : Spot} {u : Stay} {b y : List ℕ} {m : Record} → Standing z k u b → ((out : List ℕ) → stood z k u b out ≡ stateOf m y out)
     → MovedTo z m (u .taken) y
-moved-to {z} {u = u} x e = record {
+standing-moves {z} {u = u} x e = record {
   stage = subst (λ (t : State). Stage (plan z) (t .run)) (e []) (x .stage);
   formed = x .formed;
   goes = λ out. x .goes out ∙ ap (rowFrom (plan z) (z .row) (u .taken * 8)) (e out);
 }
 
 module _ (z : Run) (k : Spot) (u : Stay) (b : List ℕ) where
-  waits-here : 1 ≤ u .left → (out : List ℕ) → stood z k u b out ≡ stateOf (at z k u) b out
+  stay-waits : 1 ≤ u .left → (out : List ℕ) → stood z k u b out ≡ stateOf (at z k u) b out
   unfolding recordAt
-  waits-here some out = standing-waits _ (stateOf (at z k u) b out) some
+  stay-waits some out = standing-waits _ (stateOf (at z k u) b out) some
 
   moved-alive : Admitted z → (c : Command) → instruction z k ≡ Camac c → MovedTo z (at z k u) (u .taken) b → Alive (plan z) c (at z k u)
   unfolding recordAt
   moved-alive g c is m = decoded-as (z .list) (z .table) (z .sizes) _ g (at z k u) (m .stage) refl (instruction z k) refl c is
 
   -- moved to the record of a stay, it stands before its word
-  before-word : {first words : ℕ} → Admitted z → AtCommand (instruction z k) first words → MovedTo z (at z k u) (u .taken) b → z .from ≤ u .taken
+  moved-stands : {first words : ℕ} → Admitted z → AtCommand (instruction z k) first words → MovedTo z (at z k u) (u .taken) b → z .from ≤ u .taken
       → length b ≡ length (z .buffer) → BeforeWord z first k u b
   unfolding recordAt
-  before-word {first} {words} g a m onward kept =
+  moved-stands {first} {words} g a m onward kept =
       let some : 1 ≤ u .left = numbers g (moved-alive g (commandIn first (a .second)) (a .is) m) .left-least in
       record {
         words = words;
@@ -239,8 +231,8 @@ module _ (z : Run) (k : Spot) (u : Stay) (b : List ℕ) where
           formed = m .formed;
           kept = kept;
           behind = λ e. absurd (omega arith);
-          stage = rw (waits-here some []) (m .stage);
-          goes = λ out. m .goes out ∙ ap (rowFrom (plan z) (z .row) (u .taken * 8)) (sym (waits-here some out));
+          stage = rw (stay-waits some []) (m .stage);
+          goes = λ out. m .goes out ∙ ap (rowFrom (plan z) (z .row) (u .taken * 8)) (sym (stay-waits some out));
         };
       }
 
@@ -248,7 +240,7 @@ module _ (z : Run) (k : Spot) (u : Stay) (b : List ℕ) where
   module _ (g : Admitted z) (c : Command) (is : instruction z k ≡ Camac c) (x : Standing z k u b) {v : Stay} {y : List ℕ}
       (l : Leads (z .sizes .limit) c (z .before) (z .row) (z .from) k u b v y) where
     al : Alive (plan z) c (at z k u)
-    al = moved-alive g c is (moved-to x (waits-here (l .some)))
+    al = moved-alive g c is (standing-moves x (stay-waits (l .some)))
 
     takes : (out : List ℕ)
         → takeReply (z .sizes .limit) (restFrom (z .list) (z .sizes .count) (spotAfter (at z k u .spot))) c (l .reply) (stateOf (at z k u) b out)
@@ -269,7 +261,7 @@ module _ (z : Run) (k : Spot) (u : Stay) (b : List ℕ) where
               let w = last-going g al (at z k v) y (omega (arith, l .some, l .left)) (l .last e) kept in
               record { on = w .on; room = w .room };
           stage = took-stage g al (l .reply) b (stood z k v y) takes;
-          goes = λ out. moved-to x (waits-here (l .some)) .goes out
+          goes = λ out. standing-moves x (stay-waits (l .some)) .goes out
               ∙ took-goes g al (l .reply) b (stood z k v y) takes (z .row) (u .taken * 8) (l .inside) (l .is) out
               ∙ ap (λ (n : ℕ). rowFrom (plan z) (z .row) n (stood z k v y out)) next;
         }
@@ -282,7 +274,7 @@ module _ {z : Run} {answers : ℕ} (g : Admitted z) (answered : Answered (z .row
     c = commandIn first (x .command .second)
 
     waits : MovedTo z (at z k u) (u .taken) b
-    waits = moved-to (x .stands) (waits-here z k u b (x .some))
+    waits = standing-moves (x .stands) (stay-waits z k u b (x .some))
 
     alive : Alive (plan z) c (at z k u)
     alive = moved-alive z k u b g c (x .command .is) waits
@@ -336,8 +328,6 @@ module _ {z : Run} {answers : ℕ} (g : Admitted z) (answered : Answered (z .row
           })
           (x .stands, omega arith) (rw (is (x .command .second)) at p)
 
-      pub word-on : ¬ (v .left ≡ 0) → BeforeWord z first k v y
-      word-on h = record { words = x .words; command = x .command; some = omega arith; stands = words-passed .0 }
 
   -- where the loop begins
   pub word-start : {place first : ℕ} {u : Stay} → FormedFrom (z .row) (z .from * 8) → Stage (plan z) (z .before)
@@ -348,7 +338,7 @@ module _ {z : Run} {answers : ℕ} (g : Admitted z) (answered : Answered (z .row
       let second = secondAt (z .list) place in
       let is = w .is ∙ ap (λ (n : ℕ). Camac (commandIn n second)) (sym (p .0)) in
       let al = decoded-as (z .list) (z .table) (z .sizes) _ g (z .before) st ended _ refl (commandIn first second) is in
-      rw eu (before-word z (z .before .spot) (stayOf (z .before) (z .from)) (z .buffer) g (record { second = second; passes = p .1; is = is; wanted = refl })
+      rw eu (moved-stands z (z .before .spot) (stayOf (z .before) (z .from)) (z .buffer) g (record { second = second; passes = p .1; is = is; wanted = refl })
       (moves-as (plan z) (z .row) (stay-again g first second al (z .row) (z .from)) refl
       (moves-none (plan z) (z .row) (z .before) (z .from * 8) (z .buffer) st f)) (omega arith) refl)
 
@@ -384,7 +374,7 @@ module _ {z : Run} {answers : ℕ} (g : Admitted z) (answered : Answered (z .row
 
       arrived-moves : MovedTo z (at z (x .spot) (arrived arriving (x .marks) u)) (u .taken) y
       unfolding runOn
-      arrived-moves = moved-to h (λ out. comes (Camac arriving) (t .command q .is) out ∙ ap (λ (r : Record). stateOf r y out) arrives)
+      arrived-moves = standing-moves h (λ out. comes (Camac arriving) (t .command q .is) out ∙ ap (λ (r : Record). stateOf r y out) arrives)
 
       module _ {v : Stay}
           (f : (second : ℕ) → x .words ≡ wordsOf (commandIn (x .first) second .transfer) → v ≡ arrived (commandIn (x .first) second) (x .marks) u) where
@@ -398,11 +388,11 @@ module _ {z : Run} {answers : ℕ} (g : Admitted z) (answered : Answered (z .row
         pub word-next : length y ≡ length b → BeforeWord z (x .first) (x .spot) v y
         unfolding arrived
         word-next kept =
-            rw is (before-word z (x .spot) (arrived arriving (x .marks) u) y g (t .command q) arrived-moves (h .onward) (kept ∙ h .kept))
+            rw is (moved-stands z (x .spot) (arrived arriving (x .marks) u) y g (t .command q) arrived-moves (h .onward) (kept ∙ h .kept))
 
     -- the halt
     pub standing-halt : {v : Stay} → x .halted ≡ true → v ≡ between (x .marks) u
         → MovedTo z (stopRecord (z .before) (z .row) (z .from) (record { spot = x .spot; stay = v; halted = true })) (v .taken) y
         × ((z .from ≤ v .taken) × (v .position < 4096))
     unfolding runOn stopRecord recordAt endedAt between
-    standing-halt q ev = rw ev (moved-to h (comes Halt (t .halt q)), (h .onward, omega arith))
+    standing-halt q ev = rw ev (standing-moves h (comes Halt (t .halt q)), (h .onward, omega arith))

@@ -1,12 +1,12 @@
 -- The whole run over a row of replies, as code makes it. Nothing here is a rule of document 01: the law StepsAreTakes joins `takesOver` to the
 -- definition of the whole run, and RunTurn joins words and waits to it.
-use Prim.Native.Nat.{ℕ, _+_, _/_, _≤_}
+use Prim.Native.Nat.{ℕ, _+_, _/_}
 use mathlib.Core.Path.{_≡_}
 use mathlib.Core.Logic.{_⊎_}
 use mathlib.Core.Bool.{true}
 use mathlib.Core.List.{List, [], _∷_}
 use mathlib.Core.Option.{Option, none, some}
-use lib.ListN.{length, drop}
+use lib.ListN.{drop}
 use Rattle.base.specs.Checks.{if_then_else_}
 use Rattle.listfile.specs.declared.check.Sizes.{Sizes}
 use Rattle.walk.specs.Admission.{Plan}

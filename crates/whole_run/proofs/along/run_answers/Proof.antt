@@ -1,13 +1,15 @@
 -- `run_answers` goes on over answers and along the walk: the invariant is that the run stands before a word, whatever record it set out with.
 -- Each turn takes the answers of an instruction, of which there is one at least.
-use Prim.Native.Nat.{_-_, _*_}
-use mathlib.Core.Path.{_∙_}
+use Prim.Native.Nat.{_+_, _-_, _*_, _≤_}
+use mathlib.Core.Path.{_≡_, _∙_}
 use native.Mathlib.Omega.{arith}
 use borrow.Author.Needs.{needs}
 use lib.ListN.{length}
+use Rattle.walk.specs.Walk.{spotAfter}
 use Rattle.reply.specs.declared.records.Record.{Record}
 use Rattle.step.proofs.PlanLaws.{askable}
-use Rattle.whole_run.proofs.RunTurn.{Run, Standing, BeforeWord, grounds-table, waiting, word-start, word-spot, word-position, word-roomy, words-passed, word-on, word-stop, next-taken, word-next, standing-halt}
+use Rattle.whole_run.specs.model.Along.{Reaches}
+use Rattle.whole_run.proofs.RunTurn.{Run, Standing, BeforeWord, grounds-table, waiting, word-start, word-spot, word-position, word-again, word-roomy, words-passed, word-stop, next-taken, word-next, standing-halt}
 use Rattle.whole_run.proofs.along.run_answers.Statement.{statement}
 use Rattle.whole_run.proofs.along.run_answers.Tie as tie
 
@@ -45,15 +47,26 @@ module _ (a : tie.At-loop Inv-loop μ-loop) where
       (waiting (p .0) (p .1 .0 .1 .0) (p .1 .0 .1 .1) (a .before .before .before .usize-of-short .ensures)) (a .before .before .first-at .ensures)
       (a .before .stay-of .ensures))
 
--- behind its last word
-module _ (e : tie.Else1 Inv-loop μ-loop) where
+-- its answers passed
+module _ (m : tie.After-visit Inv-loop μ-loop) where
   abbrev at : tie.At-loop Inv-loop μ-loop
-  at = e .before .before .before .before .before .before .before
+  at = m .before .before .before
 
-  behind : {r : Record} → At at r
-      → Standing (run at r) (at .loop .spot) (e .before .before .before .before .visit .result) (e .before .before .before .before .visit .last .1 .1 .1 .0)
-  behind x = let p = start at .pre in
-      words-passed (p .0) (p .1 .1) x (e .before .before .before .before .before .before .rules-in .ensures) (e .before .before .before .before .visit .ensures) .0
+  passed : {r : Record} → At at r → Standing (run at r) (at .loop .spot) (m .visit .result) (m .visit .last .1 .1 .1 .0)
+      × (at .loop .here .taken + at .loop .here .left ≤ m .visit .result .taken + m .visit .result .left)
+  passed x = let p = start at .pre in words-passed (p .0) (p .1 .1) x (m .before .before .rules-in .ensures) (m .visit .ensures)
+
+-- on along the walk
+module _ (k : tie.After-reach Inv-loop μ-loop) where
+  abbrev visited : tie.After-visit Inv-loop μ-loop
+  visited = k .before .before .before .before .before .before .before .before
+
+  none : visited .visit .result .left ≡ 0
+  none = k .before .before .before .before .if1 .left
+
+  reached : Reaches (start (at visited) .args .list .now) (start (at visited) .args .table .now) (start (at visited) .args .sizes .count)
+      (spotAfter (at visited .loop .spot)) (visited .visit .result .marks) (visited .visit .last .1 .1 .1 .0) (k .reach .result) (k .reach .last .1 .1 .1 .1 .1 .0)
+  reached = rw (k .before .before .spot-after .ensures) at (k .reach .ensures)
 
 mul-usize-of-short : tie.Need-mul-usize-of-short Inv-loop μ-loop
 mul-usize-of-short c =
@@ -86,14 +99,12 @@ visit-requires c κs =
     (p .0 .prepared .planned .small, word-roomy (p .0) (p .1 .1) (word a) (c .before .rules-in .ensures))
 
 same-length : tie.Need-same-length Inv-loop μ-loop
-same-length c =
-    let a = c .before .before .before .before .before .before .before in let p = start a .pre in
-    word-on (p .0) (p .1 .1) (word a) (c .before .before .before .before .before .before .rules-in .ensures) (c .before .before .before .before .visit .ensures) (c .if1 .taken) .stands .kept
+same-length c = let m = c .before .before .before .before in passed m (word (at m)) .0 .kept
 
 returns : tie.Need-returns Inv-loop μ-loop
 returns c =
-    let a = c .before .before .before .before .before .before .before in let p = start a .pre in
-    let y = word-on (p .0) (p .1 .1) (word a) (c .before .before .before .before .before .before .rules-in .ensures) (c .before .before .before .before .visit .ensures) (c .if1 .taken) in
+    let m = c .before .before .before .before in let p = start (at m) .pre in
+    let y = word-again (word (at m)) (passed m (word (at m)) .0) (c .if1 .taken) in
     (word-stop (p .0) (p .1 .1) y, (y .stands .onward, omega (arith, word-position (p .0) (p .1 .1) y)))
 
 spot-after-requires : tie.Need-spot-after-requires Inv-loop μ-loop
@@ -102,44 +113,42 @@ spot-after-requires c κs =
 
 reach-requires : tie.Need-reach-requires Inv-loop μ-loop
 reach-requires c κs =
-    let e = c .before .before .before in
-    (grounds-table (start (at e) .pre .0), rw (c .before .spot-after .ensures) (behind e (word (at e)) .behind (e .if1 .left)))
+    let m = c .before .before .before .before .before .before .before in
+    (grounds-table (start (at m) .pre .0), rw (c .before .spot-after .ensures) (passed m (word (at m)) .0 .behind (c .before .before .before .if1 .left)))
 
 leave-requires : tie.Need-leave-requires Inv-loop μ-loop
 leave-requires c κs = search needs
 
 same-length-2 : tie.Need-same-length-2 Inv-loop μ-loop
 same-length-2 c =
-    let e = c .before .before .before .before .before .before .before .before .before .before in c .before .before .before .before .before .before .reach .kept .1 .1 .1 .1 .1 .0 ∙ behind e (word (at e)) .kept
+    let k = c .before .before .before .before .before .before in
+    let m = visited k in k .reach .kept .1 .1 .1 .1 .1 .0 ∙ passed m (word (at m)) .0 .kept
 
 returns-2 : tie.Need-returns-2 Inv-loop μ-loop
 returns-2 c =
-    let e = c .before .before .before .before .before .before .before .before .before .before in let p = start (at e) .pre in
-    standing-halt (p .0) (p .1 .1) (behind e (word (at e))) (e .if1 .left) (rw (c .before .before .before .before .before .before .before .before .spot-after .ensures) at (c .before .before .before .before .before .before .reach .ensures))
-    (c .before .if2 .taken) (c .leave .ensures)
+    let k = c .before .before .before .before .before .before in let m = visited k in let p = start (at m) .pre in
+    standing-halt (p .0) (p .1 .1) (passed m (word (at m)) .0) (none k) (reached k) (c .before .if2 .taken) (c .leave .ensures)
 
 arrive-requires : tie.Need-arrive-requires Inv-loop μ-loop
 arrive-requires c κs = search needs
 
 loop-less : tie.Need-loop-less Inv-loop μ-loop
 loop-less c =
-    let e = c .before .before .before .before .before .before .before .before .before .before in let p = start (at e) .pre in
-    let h = behind e (word (at e)) in
+    let k = c .before .before .before .before .before .before in let m = visited k in let p = start (at m) .pre in let h = passed m (word (at m)) in
     omega (
       arith,
-      words-passed (p .0) (p .1 .1) (word (at e)) (e .before .before .before .before .before .before .rules-in .ensures) (e .before .before .before .before .visit .ensures) .1,
-      word (at e) .some,
-      e .if1 .left,
-      h .formed .within,
-      next-taken (p .0) (p .1 .1) h (e .if1 .left) (rw (c .before .before .before .before .before .before .before .before .spot-after .ensures) at (c .before .before .before .before .before .before .reach .ensures)) (c .before .if2 .left)
-          (c .arrive .ensures),
+      h .1,
+      word (at m) .some,
+      none k,
+      h .0 .formed .within,
+      next-taken (p .0) (p .1 .1) (h .0) (none k) (reached k) (c .before .if2 .left) (c .arrive .ensures),
     )
 
 loop-again : tie.Need-loop-again Inv-loop μ-loop
 loop-again c = λ r x.
-    let e = c .before .before .before .before .before .before .before .before .before .before in let p = start (at e) .pre in
-    word-next (p .0) (p .1 .1) (behind e (at e .loop .inv r x)) (e .if1 .left) (rw (c .before .before .before .before .before .before .before .before .spot-after .ensures) at (c .before .before .before .before .before .before .reach .ensures))
-    (c .before .if2 .left) (c .arrive .ensures) (c .before .before .before .before .before .before .reach .kept .1 .1 .1 .1 .1 .0)
+    let k = c .before .before .before .before .before .before in let m = visited k in let p = start (at m) .pre in
+    word-next (p .0) (p .1 .1) (passed m (at m .loop .inv r x) .0) (none k) (reached k) (c .before .if2 .left) (c .arrive .ensures)
+    (k .reach .kept .1 .1 .1 .1 .1 .0)
 
 pub run-answers-spec : {M : Type 1} → statement M
 run-answers-spec =
