@@ -24,7 +24,7 @@ use Rattle.row.proofs.WordLaws.{words-fewer}
 use Rattle.answers.specs.model.Visit.{rulesOf, marksBehind, noteBehind, afterWords, bytesBy, bytesAfter, Words, Passed, none, words, wait}
 use Rattle.answers.specs.declared.Rules.{Rules}
 use Rattle.answers.specs.declared.Stay.{Stay}
-use Rattle.answers.proofs.VisitRoom.{marks-add}
+use Rattle.answers.proofs.VisitRoom.{marks-add, ahead-most}
 use Rattle.answers.proofs.AnswerTurn.{Leads, word-leads, wait-leads}
 
 -- Words one after the other ------------------------------------------------------------------------------------------------
@@ -78,15 +78,11 @@ module _ (rules : Rules) (row : List ℕ) (answers : ℕ) (s : Stay) where
   ahead-behind Ignore n left j h = omega arith
   ahead-behind Repeat n left j h = omega arith
   ahead-behind Scan n left j h =
-      on (ltb (0x17F - n + 1) left)
-      (λ e. let g : suc j ≤ 0x17F - n = rw e at h in
       on (ltb (0x17F - (n + j) + 1) (left - j))
-      (λ f. rw f (omega arith))
-      (λ f. rw f (omega (arith, ltb-true (0x17F - n + 1) left e))))
-      (λ e. let g : suc j ≤ left = rw e at h in
-      on (ltb (0x17F - (n + j) + 1) (left - j))
-      (λ f. absurd (omega (arith, ltb-false (0x17F - n + 1) left e, ltb-true (0x17F - (n + j) + 1) (left - j) f)))
-      (λ f. rw f (omega arith)))
+      (λ f. rw f (on (ltb (0x17F - n + 1) left)
+      (λ e. let g : suc j ≤ 0x17F - n = rw e at h in omega arith)
+      (λ e. absurd (omega (arith, ltb-false (0x17F - n + 1) left e, ltb-true (0x17F - (n + j) + 1) (left - j) f)))))
+      (λ f. rw f (omega (arith, ahead-most Scan n left)))
 
   words-behind : (j : ℕ) → Words rules row answers s (suc j) → Words rules row answers (afterWords rules j s) 1
   unfolding afterWords

@@ -30,9 +30,9 @@ use Rattle.walk.specs.Admission.{Plan}
 use Rattle.walk.specs.model.Sums.{restFrom, planBy}
 use Rattle.walk.specs.declared.visits.Spot.{Spot}
 use Rattle.walk.proofs.Halting.{halts}
-use Rattle.walk.proofs.Rest.{OnWalk}
-use Rattle.reply.specs.Effect.{State, endedAt, waitsFor, withMarks, runOn, takeReply, stateOf}
+use Rattle.reply.specs.Effect.{State, endedAt, waitsFor, withMarks, runOn, stateOf}
 use Rattle.reply.specs.declared.records.Record.{Record}
+use Rattle.calls.specs.Calls.{takeAt}
 use Rattle.calls.proofs.FitCases.{words-incoming, words-outgoing, words-neither}
 use Rattle.step.specs.model.Place.{Alive}
 use Rattle.step.proofs.PlanLaws.{in-table}
@@ -48,22 +48,22 @@ use Rattle.whole_run.specs.model.Row.{rowFrom, Grounds, Stage, Moves}
 use Rattle.whole_run.specs.model.Along.{Ahead, Tabled, AtCommand, Reaches, arrived, between, stayOf, stopRecord}
 use Rattle.whole_run.specs.declared.along.Reached.{Reached}
 use Rattle.whole_run.proofs.WordsAhead.{ahead}
-use Rattle.whole_run.proofs.Turns.{moves-none, moves-as, numbers, walk-behind, last-going, took-stage, took-goes, decoded, decoded-as}
+use Rattle.whole_run.proofs.Turns.{moves-none, moves-as, numbers, walk-behind, last-going, reply-taken, took-stage, took-goes, decoded, decoded-as}
 use Rattle.whole_run.proofs.Reach.{field-passed, by-tag}
 
 -- Positions --------------------------------------------------------------------------------------------------------------
 
 -- N and A of a CAMAC word
-pub record Placed (p : ScanPosition) : Type 0 where
-  pub station : p .station < 32
-  pub subaddress : p .subaddress < 16
+record Placed (p : ScanPosition) : Type 0 where
+  station : p .station < 32
+  subaddress : p .subaddress < 16
 
-pub command-placed : (first second : ℕ) → Placed (positionOf (commandIn first second .transfer))
+command-placed : (first second : ℕ) → Placed (positionOf (commandIn first second .transfer))
 unfolding addressIn
 command-placed first second = rw (command-address first second) (record { station = omega arith; subaddress = omega arith })
 
 -- a position is its number again
-pub placed-again : (p : ScanPosition) → p .subaddress < 16 → positionAt (placeOf p) ≡ p
+placed-again : (p : ScanPosition) → p .subaddress < 16 → positionAt (placeOf p) ≡ p
 placed-again p h =
     let station : (p .station * 16 + p .subaddress) / 16 ≡ p .station = omega arith in
     let subaddress : (p .station * 16 + p .subaddress) % 16 ≡ p .subaddress = omega arith in
@@ -113,13 +113,10 @@ module _ {list table : List ℕ} {s : Sizes} {room : ℕ} {r : Record} {place : 
   unfolding instructionBy
   waiting = by (tagAt list place) refl
     where
-      next : OnWalk list (s .count) (spotAfter (r .spot))
-      next = walk-behind g (found .1 .1) .0
-
       by : (t : Tag) → tagAt list place ≡ t → Waiting list table r place
       by CamacTag e = record {
         passed = field-passed list table (s .count) (r .spot .instruction) place (g .prepared .planned .right)
-            (omega (arith, within list (s .count) (spotAfter (r .spot)) next)) ep;
+            (omega (arith, within list (s .count) (spotAfter (r .spot)) (walk-behind g (found .1 .1)))) ep;
         tag = e;
         is = ap (instructionAt list) (sym ep) ∙ by-tag list place e;
       }
@@ -242,11 +239,9 @@ module _ (z : Run) (k : Spot) (u : Stay) (b : List ℕ) where
     al : Alive (plan z) c (at z k u)
     al = moved-alive g c is (standing-moves x (stay-waits (l .some)))
 
-    takes : (out : List ℕ)
-        → takeReply (z .sizes .limit) (restFrom (z .list) (z .sizes .count) (spotAfter (at z k u .spot))) c (l .reply) (stateOf (at z k u) b out)
-        ≡ stood z k v y out
+    takes : (out : List ℕ) → takeAt (plan z) (l .reply) (stateOf (at z k u) b out) ≡ stood z k v y out
     unfolding recordAt
-    takes out = l .takes _ (halts (walk-behind g al .0 .walk)) out
+    takes out = reply-taken g al (l .reply) b out ∙ l .takes _ (halts (walk-behind g al .walk)) out
 
     standing-answer : Standing z k v y
     unfolding recordAt
@@ -327,7 +322,6 @@ module _ {z : Run} {answers : ℕ} (g : Admitted z) (answered : Answered (z .row
             next = λ h l. (standing-answer z k _ _ g c (x .command .is) (h .0) l, omega (arith, h .1, l .taken, l .left));
           })
           (x .stands, omega arith) (rw (is (x .command .second)) at p)
-
 
   -- where the loop begins
   pub word-start : {place first : ℕ} {u : Stay} → FormedFrom (z .row) (z .from * 8) → Stage (plan z) (z .before)

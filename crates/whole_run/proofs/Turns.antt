@@ -1,7 +1,7 @@
 -- One reply taken at a record that waits at its instruction: the reply taken is that of the definition, with the walk behind the instruction, and
 -- leaves a record that has ended or fits. A record that waits has its instruction in the table.
 use Prim.Native.Nat.{ℕ, _+_, _≤_, _<_}
-use mathlib.Core.Path.{_≡_, refl, sym, ap, ap₂, _∙_, subst}
+use mathlib.Core.Path.{_≡_, refl, sym, ap, _∙_, subst}
 use mathlib.Core.Logic.{_⊎_, inl, inr, ⊎-elim}
 use mathlib.Core.Bool.{true, false, true≢false}
 use mathlib.Core.List.{List, [], _∷_}
@@ -16,27 +16,25 @@ use Rattle.listfile.specs.declared.check.Sizes.{Sizes}
 use Rattle.listfile.specs.declared.field.Instruction.{Instruction}
 use Rattle.listfile.specs.declared.field.Instruction.the-variants.{Camac, Jump, Literal, Halt}
 use Rattle.listfile.proofs.field.Instruction.{the-type}
-use Rattle.walk.specs.Walk.{spotAfter, Visit, moved}
+use Rattle.walk.specs.Walk.{spotAfter, moved}
 use Rattle.walk.specs.Admission.{Plan}
 use Rattle.walk.specs.model.Sums.{restFrom, planBy}
-use Rattle.walk.specs.declared.visits.Spot.{Spot}
 use Rattle.walk.proofs.Rest.{OnWalk}
 use Rattle.reply.specs.Replies.{replyOf}
-use Rattle.reply.specs.Effect.{State, runOn, takeReply, stateOf}
-use Rattle.calls.specs.Calls.{takeFrom, takeAt}
+use Rattle.reply.specs.Effect.{State, takeReply, stateOf}
+use Rattle.calls.specs.Calls.{takeAt}
 use Rattle.reply.specs.declared.replies.Reply.{Reply}
 use Rattle.reply.specs.declared.records.Record.{Record}
 use Rattle.take.specs.model.Here.{Ready, hereRun, hereBuffer, resumed}
 use Rattle.take.specs.declared.Taken.{Taken}
-use Rattle.take.specs.declared.Taken.the-variants.{Same, Through, Ended}
-use Rattle.take.proofs.TakeHere.{take-here, through}
 use Rattle.row.specs.model.Words.{FormedFrom}
 use Rattle.row.proofs.RowLaws.{formed-here}
 use Rattle.worst_count.proofs.Live.{fits-live, live-waits}
 use Rattle.worst_count.proofs.FitKept.{FitNumbers, fits-numbers, fit-kept}
 use Rattle.step.specs.model.Onward.{Going, recordIn, GoingBy}
 use Rattle.step.specs.model.Place.{Alive}
-use Rattle.step.proofs.PlanLaws.{ready-here, going-next, on-next, command-at}
+use Rattle.step.proofs.PlanLaws.{taken-at, ready-here, going-next, on-next, command-at}
+use Rattle.step.proofs.StepLaws.{taken-going, taken-resumed}
 use Rattle.whole_run.specs.model.Row.{rowFrom, stoppedAt, Grounds, Stage, Moves}
 use Rattle.whole_run.proofs.StepsAreTakes.{row-turn, row-over, row-used}
 use Rattle.whole_run.proofs.WordsAhead.{grounds-sound}
@@ -54,8 +52,7 @@ module _ (p : Plan) (row : List ℕ) where
   -- by other names
   pub moves-as : {r r′ r″ : Record} {from at at′ : ℕ} {b b′ : List ℕ} → r″ ≡ r′ → at′ ≡ at → Moves p row r from b r′ at b′
       → Moves p row r from b r″ at′ b′
-  moves-as {r} {from = from} {at′ = at′} {b = b} {b′ = b′} e f x =
-      subst (λ (y : Record). Moves p row r from b y at′ b′) (sym e) (rw f x)
+  moves-as e f x = rw (e, f) x
 
   -- at the end of the run or of the row
   pub moves-last : {r r′ : Record} {from at : ℕ} {b b′ : List ℕ} → Moves p row r from b r′ at b′ → (r′ .ended ≡ true) ⊎ (length row ≤ at)
@@ -65,7 +62,7 @@ module _ (p : Plan) (row : List ℕ) where
   moves-last x (inr h) outgoing = x .goes outgoing ∙ row-used row _ p _ h
 
 pub grounds-at : {list table : List ℕ} {s : Sizes} {m n : ℕ} → m ≡ n → Grounds list table s n → Grounds list table s m
-grounds-at {list} {table} {s} e g = subst (Grounds list table s) (sym e) g
+grounds-at e g = rw e g
 
 -- A reply ----------------------------------------------------------------------------------------------------------------
 
@@ -74,80 +71,51 @@ module _ {list table : List ℕ} {s : Sizes} {room : ℕ} (g : Grounds list tabl
   numbers = fits-numbers (planBy list s) (grounds-sound list table s room g) r (al .fit) (al .waits)
 
   -- the walk behind its instruction, with room behind the last word
-  pub walk-behind : (OnWalk list (s .count) (spotAfter (r .spot))) × (restFrom list (s .count) (spotAfter (r .spot)) ≡ al .rest)
-  walk-behind = on-next list table s (g .counts) room (g .outgoing) (g .prepared) r c (al .rest) (al .waits)
+  pub walk-behind : OnWalk list (s .count) (spotAfter (r .spot))
+  walk-behind = on-next list table s (g .counts) room (g .outgoing) (g .prepared) r c (al .rest) (al .waits) .0
 
   pub last-going : (r′ : Record) (b : List ℕ) → r .left ≡ 1 → r′ .marks ≡ moved c (r .marks) → length b ≡ room
       → Going list (s .count) (spotAfter (r .spot)) r′ b
   last-going = going-next list table s (g .counts) room (g .outgoing) (g .prepared) r c (al .rest) (al .waits) (al .fit)
 
-  module _ (reply : Reply) (b : List ℕ) (t : List ℕ → State)
-      (e : (out : List ℕ) → takeReply (s .limit) (restFrom list (s .count) (spotAfter (r .spot))) c reply (stateOf r b out) ≡ t out) where
-    took : (out : List ℕ) → takeAt (planBy list s) reply (stateOf r b out) ≡ t out
-    unfolding takeAt takeFrom
-    took out =
-        rw (al .waits .found, al .waits .camac)
-        (ap (λ (vs : List Visit). takeReply (s .limit) vs c reply (stateOf r b out)) (sym (walk-behind .1)) ∙ e out)
+  pub reply-taken : (reply : Reply) (b out : List ℕ)
+      → takeAt (planBy list s) reply (stateOf r b out) ≡ takeReply (s .limit) (restFrom list (s .count) (spotAfter (r .spot))) c reply (stateOf r b out)
+  reply-taken = taken-at list table s (g .counts) room (g .outgoing) (g .prepared) r c (al .rest) (al .waits)
 
-    -- what a reply leaves is on its way
+  -- what a reply leaves is on its way
+  module _ (reply : Reply) (b : List ℕ) (t : List ℕ → State) (e : (out : List ℕ) → takeAt (planBy list s) reply (stateOf r b out) ≡ t out) where
     pub took-stage : Stage (planBy list s) (t [] .run)
     took-stage =
-        subst (λ (x : State). Stage (planBy list s) (x .run)) (took [])
+        subst (λ (x : State). Stage (planBy list s) (x .run)) (e [])
         (fit-kept (planBy list s) (grounds-sound list table s room g) (stateOf r b []) (al .fit) reply .ended-or-fits)
 
     pub took-goes : (row : List ℕ) (at : ℕ) → at < length row → replyOf (take 8 (drop at row)) ≡ some reply → (out : List ℕ)
         → rowFrom (planBy list s) row at (stateOf r b out) ≡ rowFrom (planBy list s) row (at + 8) (t out)
     took-goes row at h er out =
-        row-turn row at (planBy list s) (stateOf r b out) reply h (numbers .waits) er ∙ ap (rowFrom (planBy list s) row (at + 8)) (took out)
+        row-turn row at (planBy list s) (stateOf r b out) reply h (numbers .waits) er ∙ ap (rowFrom (planBy list s) row (at + 8)) (e out)
 
 -- as code takes it
 module _ (list table : List ℕ) (s : Sizes) (room : ℕ) (g : Grounds list table s room) (c : Command) (r : Record)
     (al : Alive (planBy list s) c r) where
-  abbrev behind : List Visit
-  behind = restFrom list (s .count) (spotAfter (r .spot))
-
   pub ready : (b : List ℕ) → length b ≡ room → Ready c r b
-  ready b e = ready-here list table s (g .counts) room (g .outgoing) (g .prepared) r c (al .rest) (al .waits) (al .fit) b e
+  ready = ready-here list table s (g .counts) room (g .outgoing) (g .prepared) r c (al .rest) (al .waits) (al .fit)
 
   module _ (reply : Reply) (b b′ : List ℕ) (eb : b′ ≡ hereBuffer (s .limit) c reply r b) (taken : Taken)
       (et : taken ≡ hereRun (s .limit) c reply r) where
-    -- behind the last word the run has room for the rest of the walk
     pub going : length b′ ≡ room → GoingBy list (s .count) taken b′
-    going e = by taken et
-      where
-        by : (t : Taken) → t ≡ hereRun (s .limit) c reply r → GoingBy list (s .count) t b′
-        by (Same x) q = tt
-        by (Through x) q =
-            let w = through (s .limit) c reply r x (sym q) in
-            subst (λ (k : Spot). Going list (s .count) (spotAfter k) x b′) (sym (w .spot)) (last-going g al x b′ (w .last) (w .marks) e)
-        by (Ended x) q = tt
+    going = taken-going list table s (g .counts) room (g .outgoing) (g .prepared) r c al reply taken b′ et
 
-    rest-behind : (out : List ℕ)
-        → resumed behind taken b′ out ≡ resumed (restFrom list (s .count) (spotAfter (recordIn taken .spot))) taken b′ out
-    rest-behind out = by taken et
-      where
-        by : (t : Taken) → t ≡ hereRun (s .limit) c reply r
-            → resumed behind t b′ out ≡ resumed (restFrom list (s .count) (spotAfter (recordIn t .spot))) t b′ out
-        by (Same x) q = refl
-        by (Through x) q =
-            ap (λ (k : Spot). runOn (restFrom list (s .count) (spotAfter k)) (stateOf x b′ out)) (sym (through (s .limit) c reply r x (sym q) .spot))
-        by (Ended x) q = refl
-
-    module _ (row : List ℕ) (at : ℕ) (f : FormedFrom row at) (h : at < length row) (er : replyOf (take 8 (drop at row)) ≡ some reply) where
-      pub moves : (next : Record) (b″ : List ℕ)
-          → ((out : List ℕ)
-          → stateOf next b″ out ≡ resumed (restFrom list (s .count) (spotAfter (recordIn taken .spot))) taken b′ out)
-          → Moves (planBy list s) row r at b next (at + 8) b″
-      moves next b″ en = record {
-        stage = took-stage g al reply b (stateOf next b″) as-here;
-        formed = formed-here row at f h .behind;
-        goes = took-goes g al reply b (stateOf next b″) as-here row at h er;
-      }
-        where
-          as-here : (out : List ℕ) → takeReply (s .limit) behind c reply (stateOf r b out) ≡ stateOf next b″ out
-          as-here out =
-              take-here (s .limit) behind c reply r b out (numbers g al .left-least)
-              ∙ ap₂ (λ (t : Taken) (x : List ℕ). resumed behind t x out) (sym et) (sym eb) ∙ rest-behind out ∙ sym (en out)
+    pub moves : (row : List ℕ) (at : ℕ) → FormedFrom row at → at < length row → replyOf (take 8 (drop at row)) ≡ some reply → (next : Record) (b″ : List ℕ)
+        → ((out : List ℕ) → stateOf next b″ out ≡ resumed (restFrom list (s .count) (spotAfter (recordIn taken .spot))) taken b′ out)
+        → Moves (planBy list s) row r at b next (at + 8) b″
+    moves row at f h er next b″ en =
+        let e : (out : List ℕ) → takeAt (planBy list s) reply (stateOf r b out) ≡ stateOf next b″ out =
+        λ out. taken-resumed list table s (g .counts) room (g .outgoing) (g .prepared) r c al reply b taken b′ out et eb ∙ sym (en out) in
+        record {
+          stage = took-stage g al reply b (stateOf next b″) e;
+          formed = formed-here row at f h .behind;
+          goes = took-goes g al reply b (stateOf next b″) e row at h er;
+        }
 
 -- An instruction ---------------------------------------------------------------------------------------------------------
 
