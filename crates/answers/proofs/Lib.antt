@@ -1,2 +1,3 @@
 pub mod VisitRoom
 pub mod AnswerTurn
+pub mod AnswersKeep

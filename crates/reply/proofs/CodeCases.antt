@@ -106,11 +106,17 @@ module _ (limit : ℕ) (c : Command) (r : Record) (a : Answer) (q : QMode) (eq :
   code-greatest =
       rw (eq, ← max-zero (if noQInStop (qmodeOf (c .transfer)) a then 7 else 0)) (max-greatest (causeChecks limit c r a))
 
-  pub code-0 :
-      spent limit q a (r .tries) ≡ false → parityError (c .ad) a ≡ false → scanLeaves q a (r .position) (r .left) ≡ false
-      → noX q (c .ad) a ≡ false → noQInStop q a ≡ false → 0 ≡ codeOf limit c r (Answered a)
-  unfolding codeOf causesOf causeChecks
-  code-0 h0 h1 h2 h3 h = rw (← eq, h0, h1, h2, h3, h)
+-- an answer that is no cause
+pub record NoCause (limit : ℕ) (c : Command) (r : Record) (a : Answer) : Type 0 where
+  pub unspent : spent limit (qmodeOf (c .transfer)) a (r .tries) ≡ false
+  pub parity : parityError (c .ad) a ≡ false
+  pub stays : scanLeaves (qmodeOf (c .transfer)) a (r .position) (r .left) ≡ false
+  pub x : noX (qmodeOf (c .transfer)) (c .ad) a ≡ false
+  pub q : noQInStop (qmodeOf (c .transfer)) a ≡ false
+
+pub no-causes : {limit : ℕ} {c : Command} {r : Record} {a : Answer} → NoCause limit c r a → causesOf limit c r (Answered a) ≡ []
+unfolding causesOf causeChecks
+no-causes n = rw (n .unspent, n .parity, n .stays, n .x, n .q)
 
 -- Nine as the only cause -------------------------------------------------------------------------------------------------
 

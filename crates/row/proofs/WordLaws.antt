@@ -38,7 +38,7 @@ parts a b c d e f h =
 
 module _ (row : List ℕ) (formed : allFormed (repliesIn row) ≡ true) where
   -- it is formed from each of its replies on
-  pub formed-from : (j : ℕ) → j * 8 ≤ length row → FormedFrom row (j * 8)
+  formed-from : (j : ℕ) → j * 8 ≤ length row → FormedFrom row (j * 8)
   formed-from zero h = formed-start row formed
   formed-from (suc j) h =
       subst (FormedFrom row) (omega arith) (formed-here row (j * 8) (formed-from j (omega arith)) (omega arith) .behind)

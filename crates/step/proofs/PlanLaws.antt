@@ -4,31 +4,30 @@ use Prim.Native.Nat.{ℕ, _^_, _≤_, _<_}
 use mathlib.Core.Path.{_≡_, refl, sym, ap, _∙_, subst}
 use mathlib.Core.Logic.{_⊎_, inl, inr}
 use mathlib.Core.Bool.{true, false, true≢false}
-use mathlib.Core.List.{List, [], _∷_, _++_}
+use mathlib.Core.List.{List, [], _∷_}
 use native.Mathlib.Omega.{arith}
 use lib.ListN.{length, getD}
-use lib.Seq.{append-snoc}
 use Rattle.camac.specs.declared.words.Command.{Command}
 use Rattle.packing.specs.declared.Marks.{Marks}
 use Rattle.listfile.specs.model.Table.{instructionAt}
 use Rattle.listfile.specs.declared.check.Sizes.{Sizes}
 use Rattle.listfile.specs.declared.field.Instruction.{Instruction}
 use Rattle.listfile.specs.declared.field.Instruction.the-variants.{Camac}
-use Rattle.walk.specs.Walk.{firstSpot, spotAfter, Visit, noMarks, moved, marksOver}
+use Rattle.walk.specs.Walk.{firstSpot, spotAfter, Visit, moved, marksOver}
 use Rattle.walk.specs.Admission.{Plan, countsOf}
-use Rattle.walk.specs.model.Sums.{restFrom, planBy, PlannedRight}
+use Rattle.walk.specs.model.Sums.{restFrom, planBy}
 use Rattle.walk.specs.declared.worst.Counts.{Counts}
-use Rattle.walk.proofs.MarksGrow.{over-append, moved-grows}
+use Rattle.walk.proofs.MarksGrow.{BelowMarks, moved-grows}
 use Rattle.walk.proofs.Rest.{OnWalk, on-walk, rest-from, rest-next}
 use Rattle.calls.specs.Fit.{fits}
-use Rattle.calls.specs.Calls.{wantedAt, wantedOf}
-use Rattle.reply.specs.Effect.{zeroRecord, stateOf}
+use Rattle.calls.specs.Calls.{takeFrom, takeAt, wantedAt, wantedOf}
+use Rattle.reply.specs.Effect.{zeroRecord, takeReply, stateOf}
 use Rattle.take.specs.model.Here.{Ready}
 use Rattle.reply.specs.declared.records.Record.{Record}
+use Rattle.reply.specs.declared.replies.Reply.{Reply}
 use Rattle.worst_count.specs.WorstCount.{WaitsAt}
-use Rattle.worst_count.proofs.Live.{Live, camacVisit, waits-once, fits-live, live-waits}
+use Rattle.worst_count.proofs.Live.{Live, waits-once, fits-live, live-waits}
 use Rattle.worst_count.proofs.Move.{last-room}
-use Rattle.walk.proofs.MarksGrow.{BelowMarks}
 use Rattle.worst_count.proofs.RunOn.{lastMarks}
 use Rattle.worst_count.proofs.Admitted.{SoundPlan, prepared-plan, prepared-sound, prepared-room}
 use Rattle.worst_count.proofs.FitKept.{FitNumbers, fits-numbers}
@@ -94,6 +93,12 @@ module _ (list table : List ℕ) (s : Sizes) (counts : Counts) (i o : ℕ) (x : 
         tail-of : List Visit → List Visit
         tail-of [] = []
         tail-of (v ∷ vs) = vs
+
+    -- a reply taken there goes on with it
+    pub taken-at : (reply : Reply) (b out : List ℕ)
+        → takeAt plan reply (stateOf r b out) ≡ takeReply (s .limit) (restFrom list (s .count) (spotAfter (r .spot))) c reply (stateOf r b out)
+    unfolding takeAt takeFrom
+    taken-at reply b out = rw (w .found, takeFrom, w .camac) (ap (λ (vs : List Visit). takeReply (s .limit) vs c reply (stateOf r b out)) (sym (on-next .1)))
 
     wanted-here : (incoming outgoing : List ℕ) → r .ended ≡ false
         → wantedBy list table r outgoing ≡ wantedOf plan (stateOf r incoming outgoing)

@@ -1,7 +1,7 @@
 -- What start and step yield, in the order of the code's tests: each refusal, and the reply taken at the operation with the walk behind its
 -- last word. A record that is left has ended or fits, so that its wanted operation is the table's.
 use Prim.Native.Nat.{ℕ, _+_}
-use mathlib.Core.Path.{_≡_, refl, sym, ap, _∙_, subst}
+use mathlib.Core.Path.{_≡_, refl, sym, ap, ap₂, _∙_, subst}
 use mathlib.Core.Logic.{_⊎_}
 use mathlib.Core.Bool.{true, false}
 use mathlib.Core.List.{List}
@@ -11,7 +11,7 @@ use Rattle.camac.specs.declared.words.Command.{Command}
 use Rattle.base.specs.Bytes.{Bytes}
 use Rattle.base.specs.declared.Refusal.{Refusal}
 use Rattle.listfile.specs.declared.check.Sizes.{Sizes}
-use Rattle.walk.specs.Walk.{firstSpot, spotAfter, Visit}
+use Rattle.walk.specs.Walk.{firstSpot, spotAfter}
 use Rattle.walk.specs.Admission.{Plan, unfit, ready, prepare}
 use Rattle.walk.specs.Admission as admission
 use Rattle.walk.specs.model.Sums.{restFrom, planBy, preparedBy, PlannedBy, refusalIn}
@@ -22,7 +22,7 @@ use Rattle.walk.specs.declared.worst.Counts.{Counts}
 use Rattle.reply.specs.Replies.{replyOf}
 use Rattle.reply.specs.Effect.{State, runOn, stateOf, zeroRecord}
 use Rattle.calls.specs.Fit.{fits}
-use Rattle.calls.specs.Calls.{notRefused, refusal, Called, refusedCall, takenCall, begun, startPrepared, startOf, takeFrom, takeAt, stepReply, stepPrepared, stepOf, yieldOf, Yields}
+use Rattle.calls.specs.Calls.{notRefused, refusal, Called, refusedCall, takenCall, begun, startPrepared, startOf, takeAt, stepReply, stepPrepared, stepOf, yieldOf, Yields}
 use Rattle.take.specs.model.Here.{Ready, hereRun, hereBuffer, resumed}
 use Rattle.reply.specs.declared.records.Record.{Record}
 use Rattle.reply.specs.declared.replies.Reply.{Reply}
@@ -32,21 +32,40 @@ use Rattle.take.specs.declared.Taken.{Taken}
 use Rattle.take.specs.declared.Taken.the-variants.{Same, Through, Ended}
 use Rattle.take.proofs.TakeHere.{take-here, through}
 use Rattle.walk.specs.declared.visits.Spot.{Spot}
-use Rattle.worst_count.proofs.FitKept.{FitKept, fit-begun, fit-kept}
+use Rattle.worst_count.proofs.FitKept.{FitKept, fits-numbers, fit-begun, fit-kept}
 use Rattle.step.specs.model.Onward.{PreparedFor, Going, recordIn, GoingBy, Askable, wantedBy}
 use Rattle.step.specs.model.Place.{Alive}
-use Rattle.step.proofs.PlanLaws.{sound, ready-here, going-next, on-next, askable, wanted-by}
+use Rattle.step.proofs.PlanLaws.{sound, taken-at, ready-here, going-next, askable, wanted-by}
 
--- What a reply leaves --------------------------------------------------------------------------------------------------------
+-- A reply, as code takes it -------------------------------------------------------------------------------------------------
 
--- where the next instruction is asked for, it is the one behind
-same-rest : (limit : ℕ) (c : Command) (reply : Reply) (r : Record) (rest : Spot → List Visit) (t : Taken) (incoming outgoing : List ℕ)
-    → t ≡ hereRun limit c reply r
-    → resumed (rest (spotAfter (recordIn t .spot))) t incoming outgoing ≡ resumed (rest (spotAfter (r .spot))) t incoming outgoing
-same-rest limit c reply r rest (Same x) incoming outgoing e = refl
-same-rest limit c reply r rest (Through x) incoming outgoing e =
-    ap (λ (k : Spot). runOn (rest (spotAfter k)) (stateOf x incoming outgoing)) (through limit c reply r x (sym e) .spot)
-same-rest limit c reply r rest (Ended x) incoming outgoing e = refl
+module _ (list table : List ℕ) (s : Sizes) (counts : Counts) (i o : ℕ) (x : PreparedFor list table s counts i o) (r : Record) (c : Command)
+    (a : Alive (planBy list s) c r) (reply : Reply) where
+  -- behind the last word it has room for the rest of the walk
+  pub taken-going : (t : Taken) (b : List ℕ) → t ≡ hereRun (s .limit) c reply r → length b ≡ i → GoingBy list (s .count) t b
+  taken-going (Same y) b e n = tt
+  taken-going (Through y) b e n =
+      let p = through (s .limit) c reply r y (sym e) in
+      subst (λ (k : Spot). Going list (s .count) (spotAfter k) y b) (sym (p .spot))
+      (going-next list table s counts i o x r c (a .rest) (a .waits) (a .fit) y b (p .last) (p .marks) n)
+  taken-going (Ended y) b e n = tt
+
+  -- where the next instruction is asked for, it is the one behind
+  same-rest : (t : Taken) (b out : List ℕ) → t ≡ hereRun (s .limit) c reply r
+      → resumed (restFrom list (s .count) (spotAfter (r .spot))) t b out ≡ resumed (restFrom list (s .count) (spotAfter (recordIn t .spot))) t b out
+  same-rest (Same y) b out e = refl
+  same-rest (Through y) b out e =
+      ap (λ (k : Spot). runOn (restFrom list (s .count) (spotAfter k)) (stateOf y b out)) (sym (through (s .limit) c reply r y (sym e) .spot))
+  same-rest (Ended y) b out e = refl
+
+  pub taken-resumed : (incoming : List ℕ) (t : Taken) (b out : List ℕ) → t ≡ hereRun (s .limit) c reply r → b ≡ hereBuffer (s .limit) c reply r incoming
+      → takeAt (planBy list s) reply (stateOf r incoming out) ≡ resumed (restFrom list (s .count) (spotAfter (recordIn t .spot))) t b out
+  taken-resumed incoming t b out et eb =
+      taken-at list table s counts i o x r c (a .rest) (a .waits) reply incoming out
+      ∙ take-here (s .limit) (restFrom list (s .count) (spotAfter (r .spot))) c reply r incoming out
+      (fits-numbers (planBy list s) (sound list table s counts i o x) r (a .fit) (a .waits) .left-least)
+      ∙ ap₂ (λ (y : Taken) (l : List ℕ). resumed (restFrom list (s .count) (spotAfter (r .spot))) y l out) (sym et) (sym eb)
+      ∙ same-rest t b out et
 
 -- A call's answer, and the preparation ---------------------------------------------------------------------------------------
 
@@ -170,30 +189,14 @@ module _ (list table : List ℕ) (s : Sizes) (counts : Counts) (incoming outgoin
 
       module _ (answer : Reply) (taken : Taken) (b : List ℕ) (w : Took (s .limit) c r reply incoming answer taken b) where
         pub step-going : GoingBy list (s .count) taken b
-        step-going = by taken (w .run)
-          where
-            by : (t : Taken) → t ≡ hereRun (s .limit) c answer r → GoingBy list (s .count) t b
-            by (Same y) e = tt
-            by (Through y) e =
-                let p = through (s .limit) c answer r y (sym e) in
-                subst (λ (k : Spot). Going list (s .count) (spotAfter k) y b) (sym (p .spot))
-                (going-next list table s counts (length incoming) (length outgoing) x r c (a .rest) (a .waits) (a .fit) y b (p .last) (p .marks)
-                (w .same-length))
-            by (Ended y) e = tt
+        step-going = taken-going list table s counts (length incoming) (length outgoing) x r c a answer taken b (w .run) (w .same-length)
 
         module _ (next : Record) (b′ : List ℕ)
             (en : (out : List ℕ)
             → stateOf next b′ out ≡ resumed (restFrom list (s .count) (spotAfter (recordIn taken .spot))) taken b out) where
           arrives : stateOf next b′ outgoing ≡ takeAt plan answer before
-          unfolding takeAt takeFrom
           arrives =
-              en outgoing ∙ same-rest (s .limit) c answer r (restFrom list (s .count)) taken b outgoing (w .run)
-              ∙ ap (λ (vs : List Visit). resumed vs taken b outgoing)
-              (on-next list table s counts (length incoming) (length outgoing) x r c (a .rest) (a .waits) .1)
-              ∙ ap (λ (t : Taken). resumed (a .rest) t b outgoing) (w .run)
-              ∙ ap (λ (l : List ℕ). resumed (a .rest) (hereRun (s .limit) c answer r) l outgoing) (w .bytes)
-              ∙ sym (take-here (s .limit) (a .rest) c answer r incoming outgoing (step-ready .some))
-              ∙ rw (a .waits .found, takeFrom, a .waits .camac)
+              en outgoing ∙ sym (taken-resumed list table s counts (length incoming) (length outgoing) x r c a answer incoming taken b outgoing (w .run) (w .bytes))
 
           left : Askable table next
               × (takenCall plan (takeAt plan answer before)

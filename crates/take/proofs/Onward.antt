@@ -1,8 +1,9 @@
--- One visit of the walk is one unrolling of `runOn`: by the visit's instruction the run goes on, with its marks moved, or stays there.
+-- One visit of the walk is one unrolling of `runOn`: by the visit's instruction the run goes on, with its marks moved, or stays there. So the walk
+-- looks at marks, operations, status and note alone.
 use Prim.Native.Nat.{ℕ}
 use mathlib.Core.Path.{_≡_, refl, sym, ap}
 use mathlib.Core.Bool.{true}
-use mathlib.Core.List.{List, _∷_}
+use mathlib.Core.List.{List, [], _∷_}
 use mathlib.Core.Option.{some}
 use native.Mathlib.Omega.{arith}
 use lib.ListN.{length}
@@ -13,6 +14,7 @@ use Rattle.listfile.specs.declared.field.Instruction.{Instruction}
 use Rattle.listfile.specs.declared.field.Instruction.the-variants.{Camac, Jump, Literal, Halt}
 use Rattle.walk.specs.declared.visits.Spot.{Spot}
 use Rattle.walk.specs.Walk.{Visit, nextOf, movedBy, marksAfter}
+use Rattle.walk.proofs.Halting.{Halts}
 use Rattle.reply.specs.Effect.{waitsFor, endedAt, withMarks, putLiteral, runOn, stateOf}
 use Rattle.take.specs.model.Here.{advanceRun, advanceBuffer}
 use Rattle.reply.specs.declared.records.Record.{Record}
@@ -80,3 +82,30 @@ advance-length (Camac c) r incoming = refl
 advance-length (Jump target) r incoming = refl
 advance-length (Literal v) r incoming = stored-length true v (r .marks .incoming) incoming
 advance-length Halt r incoming = refl
+
+-- the record r at the place of another: the walk goes on from both alike
+abbrev pub atPlace : Record → Record → Record
+atPlace m r = record {
+  ended = m .ended;
+  spot = m .spot;
+  left = m .left;
+  tries = m .tries;
+  position = m .position;
+  marks = r .marks;
+  operations = r .operations;
+  status = r .status;
+  note = r .note;
+}
+
+pub runs-alike : (m : Record) (vs : List Visit) → Halts vs → (r : Record) (b out : List ℕ) → runOn vs (stateOf r b out) ≡ runOn vs (stateOf (atPlace m r) b out)
+unfolding runOn waitsFor endedAt putLiteral
+runs-alike m [] h r b out = absurd h
+runs-alike m (v ∷ vs) h r b out = at (v .instruction) h (runs-alike m vs)
+  where
+    at : (i : Instruction) → Halts (visitOf (v .spot) (v .place) i ∷ vs)
+        → (Halts vs → (r : Record) (b out : List ℕ) → runOn vs (stateOf r b out) ≡ runOn vs (stateOf (atPlace m r) b out))
+        → runOn (visitOf (v .spot) (v .place) i ∷ vs) (stateOf r b out) ≡ runOn (visitOf (v .spot) (v .place) i ∷ vs) (stateOf (atPlace m r) b out)
+    at (Camac c) h ih = refl
+    at (Jump target) h ih = ih h r b out
+    at (Literal x) h ih = ih h (withMarks (movedBy Incoming true (r .marks)) r) (stored true x (r .marks .incoming) b) out
+    at Halt h ih = refl

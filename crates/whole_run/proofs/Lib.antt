@@ -1,9 +1,7 @@
 pub mod StepsAreTakes
-pub mod TakeTurn
 pub mod WordsAhead
 pub mod Turns
 pub mod Reach
-pub mod VisitTurn
 pub mod RunTurn
 pub mod WholeRun
 pub mod SeveralReplies

@@ -1,12 +1,11 @@
 -- One turn of the loop over instructions: from a stay at an instruction over its answers and on along the walk to the next one, or to the halt. A stay
--- stands for the record that a run has there, whose position is that of a CAMAC word or of a scan and so one number below 512.
+-- stands for the record that a run has there, or with no word left for the walk behind it; each answer leads from one to the next.
 use Prim.Native.Nat.{ℕ, _+_, _-_, _*_, _/_, _%_, _≤_, _<_}
 use mathlib.Core.Path.{_≡_, refl, sym, ap, _∙_, subst}
-use mathlib.Core.Logic.{inl, inr}
 use mathlib.Core.Bool.{true, false}
 use mathlib.Core.List.{List, [], _∷_}
 use native.Mathlib.Omega.{arith}
-use lib.Bits.{bitOr, or-zero-r}
+use lib.Bits.{or-zero-r}
 use lib.ListN.{length, getD}
 use Rattle.camac.specs.Words.{qmodeOf, addressIn, wordsOf, positionOf, directionOf, commandIn}
 use Rattle.camac.specs.model.Bits.{Passes}
@@ -27,41 +26,44 @@ use Rattle.listfile.specs.declared.field.Instruction.the-variants.{Camac, Halt}
 use Rattle.listfile.specs.declared.field.Tag.{Tag}
 use Rattle.listfile.specs.declared.field.Tag.the-variants.{CamacTag, JumpTag, LiteralTag, HaltTag, UnknownTag}
 use Rattle.walk.specs.Walk.{spotAfter, Visit, movedWords}
+use Rattle.walk.specs.Admission.{Plan}
 use Rattle.walk.specs.model.Sums.{restFrom, planBy}
 use Rattle.walk.specs.declared.visits.Spot.{Spot}
-use Rattle.walk.proofs.Rest.{OnWalk}
+use Rattle.walk.proofs.Halting.{halts}
 use Rattle.reply.specs.Effect.{State, endedAt, waitsFor, withMarks, runOn, stateOf}
 use Rattle.reply.specs.declared.records.Record.{Record}
+use Rattle.calls.specs.Calls.{takeAt}
 use Rattle.calls.proofs.FitCases.{words-incoming, words-outgoing, words-neither}
-use Rattle.worst_count.proofs.FitKept.{FitNumbers, fits-numbers}
 use Rattle.step.specs.model.Place.{Alive}
-use Rattle.step.proofs.PlanLaws.{in-table, on-next}
+use Rattle.step.proofs.PlanLaws.{in-table}
 use Rattle.step.proofs.Onward.{within, Begins, begins}
-use Rattle.whole_run.specs.model.Row.{rowFrom, Grounds, Stage, Moves}
 use Rattle.row.specs.model.Words.{FormedFrom, Answered, gatheredBits}
+use Rattle.row.proofs.RowLaws.{formed-here}
 use Rattle.answers.specs.model.Visit.{rulesOf, placeOf, positionAt, recordAt, marksBehind, Passed, Roomy}
-use Rattle.whole_run.specs.model.Along.{Ahead, Tabled, Reaches, arrived, between, stayOf, stopRecord}
-use Rattle.whole_run.specs.declared.along.Reached.{Reached}
 use Rattle.answers.specs.declared.Rules.{Rules}
 use Rattle.answers.specs.declared.Stay.{Stay}
-use Rattle.whole_run.proofs.WordsAhead.{grounds-sound, ahead}
-use Rattle.whole_run.proofs.Turns.{decoded, decoded-as}
+use Rattle.answers.proofs.AnswerTurn.{standing, standing-waits, standing-through, Leads}
+use Rattle.answers.proofs.AnswersKeep.{passed-kept}
+use Rattle.whole_run.specs.model.Row.{rowFrom, Grounds, Stage, Moves}
+use Rattle.whole_run.specs.model.Along.{Ahead, Tabled, AtCommand, Reaches, arrived, between, stayOf, stopRecord}
+use Rattle.whole_run.specs.declared.along.Reached.{Reached}
+use Rattle.whole_run.proofs.WordsAhead.{ahead}
+use Rattle.whole_run.proofs.Turns.{moves-none, moves-as, numbers, walk-behind, last-going, reply-taken, took-stage, took-goes, decoded, decoded-as}
 use Rattle.whole_run.proofs.Reach.{field-passed, by-tag}
-use Rattle.whole_run.proofs.VisitTurn.{Leads, leads}
 
 -- Positions --------------------------------------------------------------------------------------------------------------
 
 -- N and A of a CAMAC word
-pub record Placed (p : ScanPosition) : Type 0 where
-  pub station : p .station < 32
-  pub subaddress : p .subaddress < 16
+record Placed (p : ScanPosition) : Type 0 where
+  station : p .station < 32
+  subaddress : p .subaddress < 16
 
-pub command-placed : (first second : ℕ) → Placed (positionOf (commandIn first second .transfer))
+command-placed : (first second : ℕ) → Placed (positionOf (commandIn first second .transfer))
 unfolding addressIn
 command-placed first second = rw (command-address first second) (record { station = omega arith; subaddress = omega arith })
 
 -- a position is its number again
-pub placed-again : (p : ScanPosition) → p .subaddress < 16 → positionAt (placeOf p) ≡ p
+placed-again : (p : ScanPosition) → p .subaddress < 16 → positionAt (placeOf p) ≡ p
 placed-again p h =
     let station : (p .station * 16 + p .subaddress) / 16 ≡ p .station = omega arith in
     let subaddress : (p .station * 16 + p .subaddress) % 16 ≡ p .subaddress = omega arith in
@@ -94,278 +96,297 @@ grounds-table g = record {
   right = g .prepared .planned .right;
 }
 
--- At an instruction --------------------------------------------------------------------------------------------------------
+-- The instruction at which a record waits ------------------------------------------------------------------------------------
 
 -- the instruction at which a record waits, by the field at a place
-pub record Waiting (list : List ℕ) (s : Sizes) (r : Record) (place : ℕ) : Type 0 where
+pub record Waiting (list table : List ℕ) (r : Record) (place : ℕ) : Type 0 where
   pub passed : FieldPassed list place
   pub tag : tagAt list place ≡ CamacTag
-  pub alive : Alive (planBy list s) (commandIn (firstAt list place) (secondAt list place)) r
+  pub is : instructionAt list (getD table (r .spot .instruction) 0) ≡ Camac (commandIn (firstAt list place) (secondAt list place))
 
 module _ {list table : List ℕ} {s : Sizes} {room : ℕ} {r : Record} {place : ℕ} (g : Grounds list table s room) (st : Stage (planBy list s) r)
     (waits : r .ended ≡ false) (ep : place ≡ getD table (r .spot .instruction) 0) where
   found : (c : Command) × ((instructionAt list place ≡ Camac c) × Alive (planBy list s) c r)
   found = decoded list table s room g r st waits (instructionAt list place) (ap (instructionAt list) ep)
 
-  pub waiting : Waiting list s r place
+  pub waiting : Waiting list table r place
   unfolding instructionBy
   waiting = by (tagAt list place) refl
     where
-      next : OnWalk list (s .count) (spotAfter (r .spot))
-      next = on-next list table s (g .counts) room (g .outgoing) (g .prepared) r (found .0) (found .1 .1 .rest) (found .1 .1 .waits) .0
-
-      by : (t : Tag) → tagAt list place ≡ t → Waiting list s r place
+      by : (t : Tag) → tagAt list place ≡ t → Waiting list table r place
       by CamacTag e = record {
         passed = field-passed list table (s .count) (r .spot .instruction) place (g .prepared .planned .right)
-            (omega (arith, within list (s .count) (spotAfter (r .spot)) next)) ep;
+            (omega (arith, within list (s .count) (spotAfter (r .spot)) (walk-behind g (found .1 .1)))) ep;
         tag = e;
-        alive = decoded-as list table s room g r st waits (instructionAt list place) (ap (instructionAt list) ep) _ (by-tag list place e);
+        is = ap (instructionAt list) (sym ep) ∙ by-tag list place e;
       }
       by JumpTag e = let q = sym (by-tag list place e) ∙ found .1 .0 in let z : _≡_ {A = ℕ} 0 1 = cc in absurd (omega arith)
       by LiteralTag e = let q = sym (by-tag list place e) ∙ found .1 .0 in let z : _≡_ {A = ℕ} 0 1 = cc in absurd (omega arith)
       by HaltTag e = let q = sym (by-tag list place e) ∙ found .1 .0 in let z : _≡_ {A = ℕ} 0 1 = cc in absurd (omega arith)
       by UnknownTag e = let q = sym (by-tag list place e) ∙ found .1 .0 in let z : _≡_ {A = ℕ} 0 1 = cc in absurd (omega arith)
 
--- a run stands at an instruction with a first longword, with the record r before reply number `from` behind it
-pub record Standing (list : List ℕ) (s : Sizes) (first : ℕ) (row : List ℕ) (r : Record) (from : ℕ) (b₀ : List ℕ) (k : Spot) (u : Stay)
-    (b : List ℕ) : Type 0 where
-  pub second : ℕ
-  pub passes : Passes first
-  pub alive : Alive (planBy list s) (commandIn first second) (recordAt r row from k u)
-  pub onward : from ≤ u .taken
-  pub formed : FormedFrom row (u .taken * 8)
-  pub kept : length b ≡ length b₀
-  pub goes : (out : List ℕ) → rowFrom (planBy list s) row (from * 8) (stateOf r b₀ out)
-      ≡ rowFrom (planBy list s) row (u .taken * 8) (stateOf (recordAt r row from k u) b out)
-
--- it is behind the last word of one
-pub record Behind (list : List ℕ) (s : Sizes) (row : List ℕ) (r : Record) (from : ℕ) (b₀ : List ℕ) (k : Spot) (u : Stay) (b : List ℕ) : Type 0 where
-  pub onward : from ≤ u .taken
-  pub formed : FormedFrom row (u .taken * 8)
-  pub kept : length b ≡ length b₀
-  pub ahead : Ahead list (s .count) (spotAfter k) (u .marks) b
-  pub stage : Stage (planBy list s) (runOn (restFrom list (s .count) (spotAfter k)) (stateOf (recordAt r row from k u) b []) .run)
-  pub goes : (out : List ℕ) → rowFrom (planBy list s) row (from * 8) (stateOf r b₀ out)
-      ≡ rowFrom (planBy list s) row (u .taken * 8) (runOn (restFrom list (s .count) (spotAfter k)) (stateOf (recordAt r row from k u) b out))
-
 module _ {list table : List ℕ} {s : Sizes} {room : ℕ} (g : Grounds list table s room) (first second : ℕ) {r : Record}
     (al : Alive (planBy list s) (commandIn first second) r) where
-  numbers : FitNumbers (planBy list s) r (commandIn first second)
-  numbers = fits-numbers (planBy list s) (grounds-sound list table s room g) r (al .fit) (al .waits)
-
   alive-placed : Placed (r .position)
   alive-placed =
       ok-placed (qmodeOf (commandIn first second .transfer)) (positionOf (commandIn first second .transfer)) (r .position) (command-placed first second)
-      (numbers .position)
+      (numbers g al .position)
 
   -- the record of its own stay
   stay-again : (row : List ℕ) (from : ℕ) → recordAt r row from (r .spot) (stayOf r from) ≡ r
   unfolding recordAt stayOf gatheredBits
   stay-again row from =
-      let ended : false ≡ r .ended = sym (numbers .waits) in
-      let none : 0 ≡ from - from = omega arith in
-      let operations : r .operations + (from - from) ≡ r .operations = omega arith in
-      let status : bitOr (r .status) (gatheredBits row from (from - from)) ≡ r .status =
-      ap (λ (n : ℕ). bitOr (r .status) (gatheredBits row from n)) (sym none) ∙ or-zero-r (r .status) in
-      λ i. record {
-        ended = ended i;
-        spot = r .spot;
-        left = r .left;
-        tries = r .tries;
-        position = placed-again (r .position) (alive-placed .subaddress) i;
-        marks = r .marks;
-        operations = operations i;
-        status = status i;
-        note = r .note;
+      let none : from - from ≡ 0 = omega arith in
+      let same : r .operations + 0 ≡ r .operations = omega arith in
+      rw (← numbers g al .waits, placed-again (r .position) (alive-placed .subaddress), none, same, or-zero-r (r .status))
+
+-- Where a run stands -------------------------------------------------------------------------------------------------------
+
+-- a run over a row on an admitted list, with its record and its incoming buffer before reply number `from`
+pub record Run : Type 0 where
+  pub list : List ℕ
+  pub table : List ℕ
+  pub sizes : Sizes
+  pub row : List ℕ
+  pub before : Record
+  pub from : ℕ
+  pub buffer : List ℕ
+
+module _ (z : Run) where
+  abbrev plan : Plan
+  plan = planBy (z .list) (z .sizes)
+
+  abbrev Admitted : Type 0
+  Admitted = Grounds (z .list) (z .table) (z .sizes) (length (z .buffer))
+
+  abbrev at : Spot → Stay → Record
+  at k u = recordAt (z .before) (z .row) (z .from) k u
+
+  -- the state that a stay stands for
+  abbrev stood : Spot → Stay → List ℕ → List ℕ → State
+  stood k u b out = standing (restFrom (z .list) (z .sizes .count) (spotAfter k)) (stateOf (at k u) b out)
+
+  abbrev instruction : Spot → Instruction
+  instruction k = instructionAt (z .list) (getD (z .table) (k .instruction) 0)
+
+  -- the run moved to a record before a reply
+  abbrev MovedTo : Record → ℕ → List ℕ → Type 0
+  MovedTo r taken b = Moves plan (z .row) (z .before) (z .from * 8) (z .buffer) r (taken * 8) b
+
+-- it stands at a stay
+pub record Standing (z : Run) (k : Spot) (u : Stay) (b : List ℕ) : Type 0 where
+  pub onward : z .from ≤ u .taken
+  pub formed : FormedFrom (z .row) (u .taken * 8)
+  pub kept : length b ≡ length (z .buffer)
+  pub behind : u .left ≡ 0 → Ahead (z .list) (z .sizes .count) (spotAfter k) (u .marks) b
+  pub stage : Stage (plan z) (stood z k u b [] .run)
+  pub goes : (out : List ℕ) → rowFrom (plan z) (z .row) (z .from * 8) (stateOf (z .before) (z .buffer) out)
+      ≡ rowFrom (plan z) (z .row) (u .taken * 8) (stood z k u b out)
+
+-- before a word of the instruction with a first longword
+pub record BeforeWord (z : Run) (first : ℕ) (k : Spot) (u : Stay) (b : List ℕ) : Type 0 where
+  pub words : ℕ
+  pub command : AtCommand (instruction z k) first words
+  pub some : 1 ≤ u .left
+  pub stands : Standing z k u b
+
+-- or again before one
+pub word-again : {z : Run} {first : ℕ} {k : Spot} {u v : Stay} {b y : List ℕ} → BeforeWord z first k u b → Standing z k v y → ¬ (v .left ≡ 0)
+    → BeforeWord z first k v y
+word-again x h more = record { words = x .words; command = x .command; some = omega arith; stands = h }
+
+-- the state that a stay stands for is moved to
+standing-moves : {z : Run} {k : Spot} {u : Stay} {b y : List ℕ} {m : Record} → Standing z k u b → ((out : List ℕ) → stood z k u b out ≡ stateOf m y out)
+    → MovedTo z m (u .taken) y
+standing-moves {z} {u = u} x e = record {
+  stage = subst (λ (t : State). Stage (plan z) (t .run)) (e []) (x .stage);
+  formed = x .formed;
+  goes = λ out. x .goes out ∙ ap (rowFrom (plan z) (z .row) (u .taken * 8)) (e out);
+}
+
+module _ (z : Run) (k : Spot) (u : Stay) (b : List ℕ) where
+  stay-waits : 1 ≤ u .left → (out : List ℕ) → stood z k u b out ≡ stateOf (at z k u) b out
+  unfolding recordAt
+  stay-waits some out = standing-waits _ (stateOf (at z k u) b out) some
+
+  moved-alive : Admitted z → (c : Command) → instruction z k ≡ Camac c → MovedTo z (at z k u) (u .taken) b → Alive (plan z) c (at z k u)
+  unfolding recordAt
+  moved-alive g c is m = decoded-as (z .list) (z .table) (z .sizes) _ g (at z k u) (m .stage) refl (instruction z k) refl c is
+
+  -- moved to the record of a stay, it stands before its word
+  moved-stands : {first words : ℕ} → Admitted z → AtCommand (instruction z k) first words → MovedTo z (at z k u) (u .taken) b → z .from ≤ u .taken
+      → length b ≡ length (z .buffer) → BeforeWord z first k u b
+  unfolding recordAt
+  moved-stands {first} {words} g a m onward kept =
+      let some : 1 ≤ u .left = numbers g (moved-alive g (commandIn first (a .second)) (a .is) m) .left-least in
+      record {
+        words = words;
+        command = a;
+        some = some;
+        stands = record {
+          onward = onward;
+          formed = m .formed;
+          kept = kept;
+          behind = λ e. absurd (omega arith);
+          stage = rw (stay-waits some []) (m .stage);
+          goes = λ out. m .goes out ∙ ap (rowFrom (plan z) (z .row) (u .taken * 8)) (sym (stay-waits some out));
+        };
       }
 
-module _ {list table row b₀ : List ℕ} {s : Sizes} {answers from : ℕ} {r : Record} (g : Grounds list table s (length b₀))
-    (answered : Answered row answers) where
-  -- where the loop begins
-  pub standing-start : {place first : ℕ} {u : Stay} → FormedFrom row (from * 8) → Waiting list s r place → (first ≡ firstAt list place) × Passes first
-      → u ≡ stayOf r from
-      → Standing list s first row r from b₀ (r .spot) u b₀
-  unfolding stayOf
-  standing-start {place} {first} f w p eu =
-      let al = subst (λ (x : ℕ). Alive (planBy list s) (commandIn x (secondAt list place)) r) (sym (p .0)) (w .alive) in
-      let again = stay-again g first (secondAt list place) al row from in
-      subst (λ (u : Stay). Standing list s first row r from b₀ (r .spot) u b₀) (sym eu) (record {
-        second = secondAt list place;
-        passes = p .1;
-        alive = subst (Alive (planBy list s) (commandIn first (secondAt list place))) (sym again) al;
-        onward = omega arith;
-        formed = f;
-        kept = refl;
-        goes = λ out. ap (λ (z : Record). rowFrom (planBy list s) row (from * 8) (stateOf z b₀ out)) (sym again);
-      })
+  -- one answer
+  module _ (g : Admitted z) (c : Command) (is : instruction z k ≡ Camac c) (x : Standing z k u b) {v : Stay} {y : List ℕ}
+      (l : Leads (z .sizes .limit) c (z .before) (z .row) (z .from) k u b v y) where
+    al : Alive (plan z) c (at z k u)
+    al = moved-alive g c is (standing-moves x (stay-waits (l .some)))
 
-  module _ {first : ℕ} {k : Spot} {u : Stay} {b : List ℕ} (x : Standing list s first row r from b₀ k u b) where
+    takes : (out : List ℕ) → takeAt (plan z) (l .reply) (stateOf (at z k u) b out) ≡ stood z k v y out
+    unfolding recordAt
+    takes out = reply-taken g al (l .reply) b out ∙ l .takes _ (halts (walk-behind g al .walk)) out
+
+    standing-answer : Standing z k v y
+    unfolding recordAt
+    standing-answer =
+        let next : u .taken * 8 + 8 ≡ v .taken * 8 = omega (arith, l .taken) in
+        let kept = l .kept ∙ x .kept in
+        record {
+          onward = omega (arith, l .taken, x .onward);
+          formed = subst (FormedFrom (z .row)) next (formed-here (z .row) (u .taken * 8) (x .formed) (l .inside) .behind);
+          kept = kept;
+          behind = λ e.
+              let w = last-going g al (at z k v) y (omega (arith, l .some, l .left)) (l .last e) kept in
+              record { on = w .on; room = w .room };
+          stage = took-stage g al (l .reply) b (stood z k v y) takes;
+          goes = λ out. standing-moves x (stay-waits (l .some)) .goes out
+              ∙ took-goes g al (l .reply) b (stood z k v y) takes (z .row) (u .taken * 8) (l .inside) (l .is) out
+              ∙ ap (λ (n : ℕ). rowFrom (plan z) (z .row) n (stood z k v y out)) next;
+        }
+
+-- Before a word --------------------------------------------------------------------------------------------------------------
+
+module _ {z : Run} {answers : ℕ} (g : Admitted z) (answered : Answered (z .row) answers) where
+  module _ {first : ℕ} {k : Spot} {u : Stay} {b : List ℕ} (x : BeforeWord z first k u b) where
+    abbrev c : Command
+    c = commandIn first (x .command .second)
+
+    waits : MovedTo z (at z k u) (u .taken) b
+    waits = standing-moves (x .stands) (stay-waits z k u b (x .some))
+
+    alive : Alive (plan z) c (at z k u)
+    alive = moved-alive z k u b g c (x .command .is) waits
+
+    -- it stops here
+    pub word-stop : MovedTo z (stopRecord (z .before) (z .row) (z .from) (record { spot = k; stay = u; halted = false })) (u .taken) b
+    unfolding stopRecord
+    word-stop = waits
+
     -- its numbers have room
-    pub standing-position : u .position < 512
+    pub word-position : u .position < 512
     unfolding recordAt
-    standing-position = omega (arith, alive-placed g first (x .second) (x .alive) .station)
+    word-position = omega (arith, alive-placed g first (x .command .second) alive .station)
 
-    pub standing-spot : k .instruction < 65536
+    pub word-spot : k .instruction < 65536
     unfolding recordAt
-    standing-spot = omega (
+    word-spot = omega (
       arith,
-      in-table list table s (g .counts) (length b₀) (g .outgoing) (g .prepared) (recordAt r row from k u) (commandIn first (x .second)) (x .alive .rest) (x .alive .waits),
+      in-table (z .list) (z .table) (z .sizes) (g .counts) _ (g .outgoing) (g .prepared) (at z k u) c (alive .rest) (alive .waits),
       g .prepared .entries,
     )
 
-    pub standing-roomy : {rules : Rules} → ((second : ℕ) → rules ≡ rulesOf (commandIn first second)) → Roomy rules row answers u b
+    pub word-roomy : {rules : Rules} → ((second : ℕ) → rules ≡ rulesOf (commandIn first second)) → Roomy rules (z .row) answers u b
     unfolding recordAt rulesOf
-    standing-roomy is =
-        let n = ahead list table s (length b₀) g (commandIn first (x .second)) (recordAt r row from k u) (x .alive) b (x .kept) in
-        let m = marks-words (commandIn first (x .second)) (u .left) (u .marks) in
-        subst (λ (y : Rules). Roomy y row answers u b) (sym (is (x .second))) (record {
+    word-roomy is =
+        let n = ahead (z .list) (z .table) (z .sizes) _ g c (at z k u) alive b (x .stands .kept) in
+        let f = numbers g alive in
+        let m = marks-words c (u .left) (u .marks) in
+        rw (is (x .command .second)) (record {
           row-formed = answered .formed;
           within = answered .within;
-          taken = x .formed .within;
+          taken = x .stands .formed .within;
           left = n .most;
-          tries = omega (arith, numbers g first (x .second) (x .alive) .tries-most, g .prepared .planned .small);
-          position = omega (arith, standing-position);
-          scan = λ some q. omega (arith, ok-scan _ _ _ (numbers g first (x .second) (x .alive) .position) q);
+          tries = omega (arith, f .tries-most, g .prepared .planned .small);
+          position = omega (arith, word-position);
+          scan = λ some q. omega (arith, ok-scan _ _ _ (f .position) q);
           incoming = omega (arith, n .room, ap (λ (y : Marks). y .incoming) m);
           small = omega (arith, n .incoming-behind, ap (λ (y : Marks). y .incoming) m);
           outgoing = omega (arith, n .outgoing-behind, ap (λ (y : Marks). y .outgoing) m);
         })
 
-    -- its answers passed
+    -- its answers passed: each word left takes one at least
     module _ {rules : Rules} {v : Stay} {y : List ℕ} (is : (second : ℕ) → rules ≡ rulesOf (commandIn first second))
-        (p : Passed rules (s .limit) row answers u b v y) where
-      led : Leads list table s (length b₀) g (commandIn first (x .second)) row (answered .formed) answers (answered .within) (answered .kinds) r from k u b v y
-      unfolding recordAt
-      led = leads list table s (length b₀) g (commandIn first (x .second)) row (answered .formed) answers (answered .within) (answered .kinds) r from k (x .kept) (x .onward) (x .alive)
-          (numbers g first (x .second) (x .alive) .left-least)
-          (x .formed .within) (subst (λ (z : Rules). Passed z (s .limit) row answers u b v y) (is (x .second)) p)
+        (p : Passed rules (z .sizes .limit) (z .row) answers u b v y) where
+      pub words-passed : Standing z k v y × (u .taken + u .left ≤ v .taken + v .left)
+      words-passed =
+          passed-kept {P = λ (t : Stay) (d : List ℕ). Standing z k t d × (u .taken + u .left ≤ t .taken + t .left)} answered
+          (record {
+            onward = λ h. h .0 .onward;
+            next = λ h l. (standing-answer z k _ _ g c (x .command .is) (h .0) l, omega (arith, h .1, l .taken, l .left));
+          })
+          (x .stands, omega arith) (rw (is (x .command .second)) at p)
 
-      pub standing-on : ¬ (v .left ≡ 0) → Standing list s first row r from b₀ k v y
-      standing-on h =
-          let w = led .waits (omega arith) in
-          record {
-            second = x .second;
-            passes = x .passes;
-            alive = w .alive;
-            onward = omega (arith, led .onward, x .onward);
-            formed = w .formed;
-            kept = led .kept ∙ x .kept;
-            goes = λ out. x .goes out ∙ w .goes out;
-          }
+  -- where the loop begins
+  pub word-start : {place first : ℕ} {u : Stay} → FormedFrom (z .row) (z .from * 8) → Stage (plan z) (z .before)
+      → z .before .ended ≡ false → Waiting (z .list) (z .table) (z .before) place
+      → (first ≡ firstAt (z .list) place) × Passes first → u ≡ stayOf (z .before) (z .from) → BeforeWord z first (z .before .spot) u (z .buffer)
+  unfolding stayOf
+  word-start {place} {first} f st ended w p eu =
+      let second = secondAt (z .list) place in
+      let is = w .is ∙ ap (λ (n : ℕ). Camac (commandIn n second)) (sym (p .0)) in
+      let al = decoded-as (z .list) (z .table) (z .sizes) _ g (z .before) st ended _ refl (commandIn first second) is in
+      rw eu (moved-stands z (z .before .spot) (stayOf (z .before) (z .from)) (z .buffer) g (record { second = second; passes = p .1; is = is; wanted = refl })
+      (moves-as (plan z) (z .row) (stay-again g first second al (z .row) (z .from)) refl
+      (moves-none (plan z) (z .row) (z .before) (z .from * 8) (z .buffer) st f)) (omega arith) refl)
 
-      pub standing-later : v .left ≡ 0 → u .taken < v .taken
-      standing-later h = led .passes h .later
+  -- Behind the last word -------------------------------------------------------------------------------------------------------
 
-      pub standing-behind : v .left ≡ 0 → Behind list s row r from b₀ k v y
-      unfolding recordAt
-      standing-behind h =
-          let w = led .passes h in
-          record {
-            onward = omega (arith, led .onward, x .onward);
-            formed = w .formed;
-            kept = led .kept ∙ x .kept;
-            ahead = record { on = w .going .on; room = w .going .room };
-            stage = w .stage;
-            goes = λ out. x .goes out ∙ w .goes out;
-          }
-
-    -- it stops here
-    pub standing-stop : Moves (planBy list s) row r (from * 8) b₀ (stopRecord r row from (record { spot = k; stay = u; halted = false })) (u .taken * 8) b
-    unfolding stopRecord
-    standing-stop = record { stage = inr (x .alive .fit); formed = x .formed; goes = x .goes }
-
-  -- On along the walk ------------------------------------------------------------------------------------------------------
-
-  module _ {k : Spot} {u : Stay} {b y : List ℕ} {x : Reached} (h : Behind list s row r from b₀ k u b)
-      (t : Reaches list table (s .count) (spotAfter k) (u .marks) b x y) where
+  module _ {k : Spot} {u : Stay} {b y : List ℕ} {x : Reached} (h : Standing z k u b) (none : u .left ≡ 0)
+      (t : Reaches (z .list) (z .table) (z .sizes .count) (spotAfter k) (u .marks) b x y) where
     abbrev carried : Record
-    carried = withMarks (x .marks) (recordAt r row from k u)
+    carried = withMarks (x .marks) (at z k u)
 
-    abbrev instruction : Instruction
-    instruction = instructionAt list (getD table (x .spot .instruction) 0)
+    abbrev visit : Instruction → Visit
+    visit i = record { spot = x .spot; place = getD (z .table) (x .spot .instruction) 0; instruction = i }
 
-    here : Begins list (s .count) (x .spot) (getD table (x .spot .instruction) 0) instruction
-    here = begins list table (s .count) (x .spot) _ _ (g .prepared .planned .right) refl refl (t .ahead .on)
+    begun : Begins (z .list) (z .sizes .count) (x .spot) (getD (z .table) (x .spot .instruction) 0) (instruction z (x .spot))
+    begun = begins (z .list) (z .table) (z .sizes .count) (x .spot) _ _ (g .prepared .planned .right) refl refl (t .ahead .on)
 
-    -- the walk from there begins with the instruction that the run came to
-    comes : (i : Instruction) → instruction ≡ i → (out : List ℕ)
-        → runOn (restFrom list (s .count) (spotAfter k)) (stateOf (recordAt r row from k u) b out)
-        ≡ runOn (record { spot = x .spot; place = getD table (x .spot .instruction) 0; instruction = i } ∷ here .rest) (stateOf carried y out)
+    -- the walk goes on with the instruction that the run came to
+    comes : (i : Instruction) → instruction z (x .spot) ≡ i → (out : List ℕ) → stood z k u b out ≡ runOn (visit i ∷ begun .rest) (stateOf carried y out)
     unfolding recordAt
     comes i e out =
-        t .goes (recordAt r row from k u) refl out ∙ ap (λ (vs : List Visit). runOn vs (stateOf carried y out)) (here .same)
-        ∙ ap (λ (i : Instruction). runOn (record { spot = x .spot; place = getD table (x .spot .instruction) 0; instruction = i } ∷ here .rest)
-        (stateOf carried y out)) e
+        standing-through _ (stateOf (at z k u) b out) none ∙ t .goes (at z k u) refl out
+        ∙ ap (λ (vs : List Visit). runOn vs (stateOf carried y out)) (begun .same)
+        ∙ ap (λ (i : Instruction). runOn (visit i ∷ begun .rest) (stateOf carried y out)) e
 
+    -- the next instruction
     module _ (q : x .halted ≡ false) where
-      abbrev c : Command
-      c = commandIn (x .first) (t .command q .second)
+      abbrev arriving : Command
+      arriving = commandIn (x .first) (t .command q .second)
 
-      arrives : waitsFor (x .spot) c carried ≡ recordAt r row from (x .spot) (arrived c (x .marks) u)
+      arrives : waitsFor (x .spot) arriving carried ≡ at z (x .spot) (arrived arriving (x .marks) u)
       unfolding recordAt waitsFor arrived
-      arrives =
-          let position = sym (placed-again (positionOf (c .transfer)) (command-placed (x .first) (t .command q .second) .subaddress)) in
-          λ i. record {
-            ended = false;
-            spot = x .spot;
-            left = wordsOf (c .transfer);
-            tries = 0;
-            position = position i;
-            marks = x .marks;
-            operations = r .operations + (u .taken - from);
-            status = bitOr (r .status) (gatheredBits row from (u .taken - from));
-            note = u .note;
-          }
+      arrives = rw (placed-again (positionOf (arriving .transfer)) (command-placed (x .first) (t .command q .second) .subaddress))
 
-      waits : (out : List ℕ)
-          → runOn (restFrom list (s .count) (spotAfter k)) (stateOf (recordAt r row from k u) b out) ≡ stateOf (recordAt r row from (x .spot) (arrived c (x .marks) u)) y out
+      arrived-moves : MovedTo z (at z (x .spot) (arrived arriving (x .marks) u)) (u .taken) y
       unfolding runOn
-      waits out = comes (Camac c) (t .command q .is) out ∙ ap (λ (z : Record). stateOf z y out) arrives
-
-      arrived-alive : Alive (planBy list s) c (recordAt r row from (x .spot) (arrived c (x .marks) u))
-      unfolding recordAt
-      arrived-alive =
-          decoded-as list table s (length b₀) g (recordAt r row from (x .spot) (arrived c (x .marks) u))
-          (subst (λ (z : State). Stage (planBy list s) (z .run)) (waits []) (h .stage)) refl instruction refl c (t .command q .is)
+      arrived-moves = standing-moves h (λ out. comes (Camac arriving) (t .command q .is) out ∙ ap (λ (r : Record). stateOf r y out) arrives)
 
       module _ {v : Stay}
           (f : (second : ℕ) → x .words ≡ wordsOf (commandIn (x .first) second .transfer) → v ≡ arrived (commandIn (x .first) second) (x .marks) u) where
-        is : v ≡ arrived c (x .marks) u
+        is : v ≡ arrived arriving (x .marks) u
         is = f (t .command q .second) (t .command q .wanted)
 
         pub next-taken : v .taken ≡ u .taken
         unfolding arrived
-        next-taken = ap (λ (z : Stay). z .taken) is
+        next-taken = ap (λ (w : Stay). w .taken) is
 
-        pub standing-next : length y ≡ length b → Standing list s (x .first) row r from b₀ (x .spot) v y
-        standing-next kept = record {
-          second = t .command q .second;
-          passes = t .command q .passes;
-          alive = subst (λ (z : Stay). Alive (planBy list s) c (recordAt r row from (x .spot) z)) (sym is) arrived-alive;
-          onward = omega (arith, h .onward, next-taken);
-          formed = subst (λ (n : ℕ). FormedFrom row (n * 8)) (sym next-taken) (h .formed);
-          kept = kept ∙ h .kept;
-          goes = λ out. h .goes out ∙ ap (rowFrom (planBy list s) row (u .taken * 8)) (waits out)
-              ∙ λ i. rowFrom (planBy list s) row (sym next-taken i * 8) (stateOf (recordAt r row from (x .spot) (sym is i)) y out);
-        }
+        pub word-next : length y ≡ length b → BeforeWord z (x .first) (x .spot) v y
+        unfolding arrived
+        word-next kept =
+            rw is (moved-stands z (x .spot) (arrived arriving (x .marks) u) y g (t .command q) arrived-moves (h .onward) (kept ∙ h .kept))
 
     -- the halt
-    module _ (q : x .halted ≡ true) where
-      halts : (out : List ℕ) → runOn (restFrom list (s .count) (spotAfter k)) (stateOf (recordAt r row from k u) b out)
-          ≡ stateOf (stopRecord r row from (record { spot = x .spot; stay = between (x .marks) u; halted = true })) y out
-      unfolding runOn stopRecord recordAt endedAt between
-      halts out = comes Halt (t .halt q) out
-
-      pub behind-halt : {v : Stay} → v ≡ between (x .marks) u
-          → Moves (planBy list s) row r (from * 8) b₀ (stopRecord r row from (record { spot = x .spot; stay = v; halted = true })) (v .taken * 8) y
-          × ((from ≤ v .taken) × (v .position < 4096))
-      unfolding stopRecord endedAt between
-      behind-halt ev = subst (λ (v : Stay). Moves (planBy list s) row r (from * 8) b₀ (stopRecord r row from (record { spot = x .spot; stay = v; halted = true }))
-          (v .taken * 8) y × ((from ≤ v .taken) × (v .position < 4096))) (sym ev) (
-            record {
-              stage = inl refl;
-              formed = h .formed;
-              goes = λ out. h .goes out ∙ ap (rowFrom (planBy list s) row (u .taken * 8)) (halts out);
-            },
-            (h .onward, omega arith),
-          )
+    pub standing-halt : {v : Stay} → x .halted ≡ true → v ≡ between (x .marks) u
+        → MovedTo z (stopRecord (z .before) (z .row) (z .from) (record { spot = x .spot; stay = v; halted = true })) (v .taken) y
+        × ((z .from ≤ v .taken) × (v .position < 4096))
+    unfolding runOn stopRecord recordAt endedAt between
+    standing-halt q ev = rw ev (standing-moves h (comes Halt (t .halt q)), (h .onward, omega arith))

@@ -1,5 +1,5 @@
 -- The answers of one instruction as code passes them: words and waits counted, with what an instruction decides for all of them. Nothing here
--- is a rule of document 01: the laws of proofs/VisitTurn join these definitions to those that are.
+-- is a rule of document 01: the laws of proofs/AnswerTurn join these definitions to those that are.
 use Prim.Native.Nat.{ℕ, _+_, _-_, _*_, _/_, _%_, _^_, _≤_, _<_}
 use mathlib.Core.Path.{_≡_}
 use mathlib.Core.Bool.{Bool, true, false}

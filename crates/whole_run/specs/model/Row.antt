@@ -1,14 +1,13 @@
 -- The whole run over a row of replies, as code makes it. Nothing here is a rule of document 01: the law StepsAreTakes joins `takesOver` to the
--- definition of the whole run, and VisitTurn joins words and waits to it.
-use Prim.Native.Nat.{ℕ, _+_, _/_, _≤_}
+-- definition of the whole run, and RunTurn joins words and waits to it.
+use Prim.Native.Nat.{ℕ, _+_, _/_}
 use mathlib.Core.Path.{_≡_}
 use mathlib.Core.Logic.{_⊎_}
 use mathlib.Core.Bool.{true}
 use mathlib.Core.List.{List, [], _∷_}
 use mathlib.Core.Option.{Option, none, some}
-use lib.ListN.{length, drop}
+use lib.ListN.{drop}
 use Rattle.base.specs.Checks.{if_then_else_}
-use Rattle.camac.specs.declared.words.Command.{Command}
 use Rattle.listfile.specs.declared.check.Sizes.{Sizes}
 use Rattle.walk.specs.Admission.{Plan}
 use Rattle.walk.specs.declared.worst.Counts.{Counts}
@@ -20,7 +19,6 @@ use Rattle.reply.specs.declared.replies.Reply.{Reply}
 use Rattle.reply.specs.declared.records.Record.{Record}
 use Rattle.row.specs.model.Words.{FormedFrom}
 use Rattle.step.specs.model.Onward.{PreparedFor}
-use Rattle.step.specs.model.Place.{Alive}
 
 -- Replies taken ----------------------------------------------------------------------------------------------------------
 
@@ -55,13 +53,6 @@ pub record Grounds (list table : List ℕ) (s : Sizes) (room : ℕ) : Type 0 whe
 -- a record on the way: it has ended, or it fits
 abbrev pub Stage : Plan → Record → Type 0
 Stage p r = (r .ended ≡ true) ⊎ (fits p r ≡ true)
-
--- from one place of the row to another, with a record that still waits at the same instruction
-pub record Stays (p : Plan) (c : Command) (row : List ℕ) (r : Record) (from : ℕ) (b : List ℕ) (r′ : Record) (at : ℕ)
-    (b′ : List ℕ) : Type 0 where
-  pub alive : Alive p c r′
-  pub formed : FormedFrom row at
-  pub goes : (outgoing : List ℕ) → rowFrom p row from (stateOf r b outgoing) ≡ rowFrom p row at (stateOf r′ b′ outgoing)
 
 -- from one place of the row to another, along the walk
 pub record Moves (p : Plan) (row : List ℕ) (r : Record) (from : ℕ) (b : List ℕ) (r′ : Record) (at : ℕ)

@@ -1,48 +1,72 @@
--- `run_answers` goes on over answers and along the walk: the invariant is that the run stands at an instruction, whatever record it set out with.
+-- `run_answers` goes on over answers and along the walk: the invariant is that the run stands before a word, whatever record it set out with.
 -- Each turn takes the answers of an instruction, of which there is one at least.
-use Prim.Native.Nat.{_-_, _*_}
-use mathlib.Core.Path.{_∙_}
+use Prim.Native.Nat.{_+_, _-_, _*_, _≤_}
+use mathlib.Core.Path.{_≡_, _∙_}
 use native.Mathlib.Omega.{arith}
 use borrow.Author.Needs.{needs}
 use lib.ListN.{length}
+use Rattle.walk.specs.Walk.{spotAfter}
 use Rattle.reply.specs.declared.records.Record.{Record}
 use Rattle.step.proofs.PlanLaws.{askable}
-use Rattle.whole_run.proofs.RunTurn.{Standing, Behind, grounds-table, waiting, standing-start, standing-spot, standing-position, standing-roomy, standing-on, standing-later, standing-behind, standing-stop, next-taken, standing-next, behind-halt}
+use Rattle.whole_run.specs.model.Along.{Reaches}
+use Rattle.whole_run.proofs.RunTurn.{Run, Standing, BeforeWord, grounds-table, waiting, word-start, word-spot, word-position, word-again, word-roomy, words-passed, word-stop, next-taken, word-next, standing-halt}
 use Rattle.whole_run.proofs.along.run_answers.Statement.{statement}
 use Rattle.whole_run.proofs.along.run_answers.Tie as tie
 
 abbrev Inv-loop : tie.InvT-loop
 Inv-loop list table sizes from incoming₀ row answers spot₀ begin longword₀ here₀ incoming spot longword here =
-    (r : Record) → Standing list sizes longword₀ row r from incoming₀ spot₀ here₀ incoming₀ → Standing list sizes longword row r from incoming₀ spot here incoming
+    (r : Record) → let z : Run = record { list = list; table = table; sizes = sizes; row = row; before = r; from = from; buffer = incoming₀ } in
+    BeforeWord z longword₀ spot₀ here₀ incoming₀ → BeforeWord z longword spot here incoming
 
 abbrev μ-loop : tie.MeasureT-loop
 μ-loop list table sizes from incoming₀ row answers spot₀ begin longword₀ here₀ incoming spot longword here = length row - here .taken * 8
 
--- what the loop stands at, for every record to set out with, and for the one that the function is given
+-- where the loop stands, for every record to set out with, and for the one that the function is given
 module _ (a : tie.At-loop Inv-loop μ-loop) where
   abbrev start : tie.Start Inv-loop μ-loop
   start = a .before .before .before .before .before .before .before .before .before .before
 
-  abbrev At : Record → Type 0
-  At r = Standing (start .args .list .now) (start .args .sizes) (a .loop .longword) (start .args .row .now) r (start .args .from)
-      (start .args .incoming .now) (a .loop .spot) (a .loop .here) (a .loop .incoming)
+  abbrev run : Record → Run
+  run r = record {
+    list = start .args .list .now;
+    table = start .args .table .now;
+    sizes = start .args .sizes;
+    row = start .args .row .now;
+    before = r;
+    from = start .args .from;
+    buffer = start .args .incoming .now;
+  }
 
-  standing : At (start .args .r)
-  standing =
+  abbrev At : Record → Type 0
+  At r = BeforeWord (run r) (a .loop .longword) (a .loop .spot) (a .loop .here) (a .loop .incoming)
+
+  word : At (start .args .r)
+  word =
       let p = start .pre in
-      a .loop .inv (start .args .r) (standing-start (p .0) (p .1 .1) (p .1 .0 .0)
+      a .loop .inv (start .args .r) (word-start (p .0) (p .1 .1) (p .1 .0 .0) (p .1 .0 .1 .0) (p .1 .0 .1 .1)
       (waiting (p .0) (p .1 .0 .1 .0) (p .1 .0 .1 .1) (a .before .before .before .usize-of-short .ensures)) (a .before .before .first-at .ensures)
       (a .before .stay-of .ensures))
 
--- behind its last word
-module _ (e : tie.Else1 Inv-loop μ-loop) where
+-- its answers passed
+module _ (m : tie.After-visit Inv-loop μ-loop) where
   abbrev at : tie.At-loop Inv-loop μ-loop
-  at = e .before .before .before .before .before .before .before
+  at = m .before .before .before
 
-  behind : {r : Record} → At at r
-      → Behind (start at .args .list .now) (start at .args .sizes) (start at .args .row .now) r (start at .args .from) (start at .args .incoming .now)
-      (at .loop .spot) (e .before .before .before .before .visit .result) (e .before .before .before .before .visit .last .1 .1 .1 .0)
-  behind x = let p = start at .pre in standing-behind (p .0) (p .1 .1) x (e .before .before .before .before .before .before .rules-in .ensures) (e .before .before .before .before .visit .ensures) (e .if1 .left)
+  passed : {r : Record} → At at r → Standing (run at r) (at .loop .spot) (m .visit .result) (m .visit .last .1 .1 .1 .0)
+      × (at .loop .here .taken + at .loop .here .left ≤ m .visit .result .taken + m .visit .result .left)
+  passed x = let p = start at .pre in words-passed (p .0) (p .1 .1) x (m .before .before .rules-in .ensures) (m .visit .ensures)
+
+-- on along the walk
+module _ (k : tie.After-reach Inv-loop μ-loop) where
+  abbrev visited : tie.After-visit Inv-loop μ-loop
+  visited = k .before .before .before .before .before .before .before .before
+
+  none : visited .visit .result .left ≡ 0
+  none = k .before .before .before .before .if1 .left
+
+  reached : Reaches (start (at visited) .args .list .now) (start (at visited) .args .table .now) (start (at visited) .args .sizes .count)
+      (spotAfter (at visited .loop .spot)) (visited .visit .result .marks) (visited .visit .last .1 .1 .1 .0) (k .reach .result) (k .reach .last .1 .1 .1 .1 .1 .0)
+  reached = rw (k .before .before .spot-after .ensures) at (k .reach .ensures)
 
 mul-usize-of-short : tie.Need-mul-usize-of-short Inv-loop μ-loop
 mul-usize-of-short c =
@@ -67,66 +91,64 @@ loop-holds : tie.Need-loop-holds Inv-loop μ-loop
 loop-holds c = λ r x. x
 
 rules-in-requires : tie.Need-rules-in-requires Inv-loop μ-loop
-rules-in-requires c κs = standing c .passes
+rules-in-requires c κs = word c .command .passes
 
 visit-requires : tie.Need-visit-requires Inv-loop μ-loop
 visit-requires c κs =
     let a = c .before .before in let p = start a .pre in
-    (p .0 .prepared .planned .small, standing-roomy (p .0) (p .1 .1) (standing a) (c .before .rules-in .ensures))
+    (p .0 .prepared .planned .small, word-roomy (p .0) (p .1 .1) (word a) (c .before .rules-in .ensures))
 
 same-length : tie.Need-same-length Inv-loop μ-loop
-same-length c =
-    let a = c .before .before .before .before .before .before .before in let p = start a .pre in
-    standing-on (p .0) (p .1 .1) (standing a) (c .before .before .before .before .before .before .rules-in .ensures) (c .before .before .before .before .visit .ensures) (c .if1 .taken) .kept
+same-length c = let m = c .before .before .before .before in passed m (word (at m)) .0 .kept
 
 returns : tie.Need-returns Inv-loop μ-loop
 returns c =
-    let a = c .before .before .before .before .before .before .before in let p = start a .pre in
-    let y = standing-on (p .0) (p .1 .1) (standing a) (c .before .before .before .before .before .before .rules-in .ensures) (c .before .before .before .before .visit .ensures) (c .if1 .taken) in
-    (standing-stop (p .0) (p .1 .1) y, (y .onward, omega (arith, standing-position (p .0) (p .1 .1) y)))
+    let m = c .before .before .before .before in let p = start (at m) .pre in
+    let y = word-again (word (at m)) (passed m (word (at m)) .0) (c .if1 .taken) in
+    (word-stop (p .0) (p .1 .1) y, (y .stands .onward, omega (arith, word-position (p .0) (p .1 .1) y)))
 
 spot-after-requires : tie.Need-spot-after-requires Inv-loop μ-loop
 spot-after-requires c κs =
-    let a = c .before .before .before .before .before .before .before .before in let p = start a .pre in standing-spot (p .0) (p .1 .1) (standing a)
+    let a = c .before .before .before .before .before .before .before .before in let p = start a .pre in word-spot (p .0) (p .1 .1) (word a)
 
 reach-requires : tie.Need-reach-requires Inv-loop μ-loop
 reach-requires c κs =
-    let e = c .before .before .before in
-    (grounds-table (start (at e) .pre .0), rw (c .before .spot-after .ensures) (behind e (standing (at e)) .ahead))
+    let m = c .before .before .before .before .before .before .before in
+    (grounds-table (start (at m) .pre .0), rw (c .before .spot-after .ensures) (passed m (word (at m)) .0 .behind (c .before .before .before .if1 .left)))
 
 leave-requires : tie.Need-leave-requires Inv-loop μ-loop
 leave-requires c κs = search needs
 
 same-length-2 : tie.Need-same-length-2 Inv-loop μ-loop
 same-length-2 c =
-    let e = c .before .before .before .before .before .before .before .before .before .before in c .before .before .before .before .before .before .reach .kept .1 .1 .1 .1 .1 .0 ∙ behind e (standing (at e)) .kept
+    let k = c .before .before .before .before .before .before in
+    let m = visited k in k .reach .kept .1 .1 .1 .1 .1 .0 ∙ passed m (word (at m)) .0 .kept
 
 returns-2 : tie.Need-returns-2 Inv-loop μ-loop
 returns-2 c =
-    let e = c .before .before .before .before .before .before .before .before .before .before in let p = start (at e) .pre in
-    behind-halt (p .0) (p .1 .1) (behind e (standing (at e))) (rw (c .before .before .before .before .before .before .before .before .spot-after .ensures) at (c .before .before .before .before .before .before .reach .ensures))
-    (c .before .if2 .taken) (c .leave .ensures)
+    let k = c .before .before .before .before .before .before in let m = visited k in let p = start (at m) .pre in
+    standing-halt (p .0) (p .1 .1) (passed m (word (at m)) .0) (none k) (reached k) (c .before .if2 .taken) (c .leave .ensures)
 
 arrive-requires : tie.Need-arrive-requires Inv-loop μ-loop
 arrive-requires c κs = search needs
 
 loop-less : tie.Need-loop-less Inv-loop μ-loop
 loop-less c =
-    let e = c .before .before .before .before .before .before .before .before .before .before in let p = start (at e) .pre in
-    let h = behind e (standing (at e)) in
+    let k = c .before .before .before .before .before .before in let m = visited k in let p = start (at m) .pre in let h = passed m (word (at m)) in
     omega (
       arith,
-      standing-later (p .0) (p .1 .1) (standing (at e)) (e .before .before .before .before .before .before .rules-in .ensures) (e .before .before .before .before .visit .ensures) (e .if1 .left),
-      h .formed .within,
-      next-taken (p .0) (p .1 .1) h (rw (c .before .before .before .before .before .before .before .before .spot-after .ensures) at (c .before .before .before .before .before .before .reach .ensures)) (c .before .if2 .left)
-          (c .arrive .ensures),
+      h .1,
+      word (at m) .some,
+      none k,
+      h .0 .formed .within,
+      next-taken (p .0) (p .1 .1) (h .0) (none k) (reached k) (c .before .if2 .left) (c .arrive .ensures),
     )
 
 loop-again : tie.Need-loop-again Inv-loop μ-loop
 loop-again c = λ r x.
-    let e = c .before .before .before .before .before .before .before .before .before .before in let p = start (at e) .pre in
-    standing-next (p .0) (p .1 .1) (behind e (at e .loop .inv r x)) (rw (c .before .before .before .before .before .before .before .before .spot-after .ensures) at (c .before .before .before .before .before .before .reach .ensures))
-    (c .before .if2 .left) (c .arrive .ensures) (c .before .before .before .before .before .before .reach .kept .1 .1 .1 .1 .1 .0)
+    let k = c .before .before .before .before .before .before in let m = visited k in let p = start (at m) .pre in
+    word-next (p .0) (p .1 .1) (passed m (at m .loop .inv r x) .0) (none k) (reached k) (c .before .if2 .left) (c .arrive .ensures)
+    (k .reach .kept .1 .1 .1 .1 .1 .0)
 
 pub run-answers-spec : {M : Type 1} → statement M
 run-answers-spec =
