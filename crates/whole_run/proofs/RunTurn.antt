@@ -39,10 +39,10 @@ use Rattle.step.proofs.PlanLaws.{in-table}
 use Rattle.step.proofs.Onward.{within, Begins, begins}
 use Rattle.row.specs.model.Words.{FormedFrom, Answered, gatheredBits}
 use Rattle.row.proofs.RowLaws.{formed-here}
-use Rattle.answers.specs.model.Visit.{rulesOf, placeOf, positionAt, recordAt, marksBehind, Passed, Roomy}
-use Rattle.answers.specs.declared.Rules.{Rules}
+use Rattle.answers.specs.model.Visit.{rulesOf, rulesIn, placeOf, positionAt, recordAt, marksBehind, Passed, Roomy}
 use Rattle.answers.specs.declared.Stay.{Stay}
 use Rattle.answers.proofs.AnswerTurn.{standing, standing-waits, standing-through, Leads}
+use Rattle.answers.proofs.VisitRoom.{rules-in, passed-as}
 use Rattle.answers.proofs.AnswersKeep.{passed-kept}
 use Rattle.whole_run.specs.model.Row.{rowFrom, Grounds, Stage, Moves}
 use Rattle.whole_run.specs.model.Along.{Ahead, Tabled, AtCommand, Reaches, arrived, between, stayOf, stopRecord}
@@ -292,13 +292,13 @@ module _ {z : Run} {answers : ℕ} (g : Admitted z) (answered : Answered (z .row
       g .prepared .entries,
     )
 
-    pub word-roomy : {rules : Rules} → ((second : ℕ) → rules ≡ rulesOf (commandIn first second)) → Roomy rules (z .row) answers u b
+    pub word-roomy : Roomy (rulesIn first) (z .row) answers u b
     unfolding recordAt rulesOf
-    word-roomy is =
+    word-roomy =
         let n = ahead (z .list) (z .table) (z .sizes) _ g c (at z k u) alive b (x .stands .kept) in
         let f = numbers g alive in
         let m = marks-words c (u .left) (u .marks) in
-        rw (is (x .command .second)) (record {
+        rw (← rules-in first (x .command .second)) (record {
           row-formed = answered .formed;
           within = answered .within;
           taken = x .stands .formed .within;
@@ -312,8 +312,7 @@ module _ {z : Run} {answers : ℕ} (g : Admitted z) (answered : Answered (z .row
         })
 
     -- its answers passed: each word left takes one at least
-    module _ {rules : Rules} {v : Stay} {y : List ℕ} (is : (second : ℕ) → rules ≡ rulesOf (commandIn first second))
-        (p : Passed rules (z .sizes .limit) (z .row) answers u b v y) where
+    module _ {v : Stay} {y : List ℕ} (p : Passed (rulesIn first) (z .sizes .limit) (z .row) answers u b v y) where
       pub words-passed : Standing z k v y × (u .taken + u .left ≤ v .taken + v .left)
       words-passed =
           passed-kept {P = λ (t : Stay) (d : List ℕ). Standing z k t d × (u .taken + u .left ≤ t .taken + t .left)} answered
@@ -321,7 +320,7 @@ module _ {z : Run} {answers : ℕ} (g : Admitted z) (answered : Answered (z .row
             onward = λ h. h .0 .onward;
             next = λ h l. (standing-answer z k _ _ g c (x .command .is) (h .0) l, omega (arith, h .1, l .taken, l .left));
           })
-          (x .stands, omega arith) (rw (is (x .command .second)) at p)
+          (x .stands, omega arith) (passed-as (sym (rules-in first (x .command .second))) p)
 
   -- where the loop begins
   pub word-start : {place first : ℕ} {u : Stay} → FormedFrom (z .row) (z .from * 8) → Stage (plan z) (z .before)

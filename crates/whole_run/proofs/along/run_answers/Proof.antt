@@ -50,11 +50,11 @@ module _ (a : tie.At-loop Inv-loop μ-loop) where
 -- its answers passed
 module _ (m : tie.After-visit Inv-loop μ-loop) where
   abbrev at : tie.At-loop Inv-loop μ-loop
-  at = m .before .before .before
+  at = m .before .before
 
   passed : {r : Record} → At at r → Standing (run at r) (at .loop .spot) (m .visit .result) (m .visit .last .1 .1 .1 .0)
       × (at .loop .here .taken + at .loop .here .left ≤ m .visit .result .taken + m .visit .result .left)
-  passed x = let p = start at .pre in words-passed (p .0) (p .1 .1) x (m .before .before .rules-in .ensures) (m .visit .ensures)
+  passed x = let p = start at .pre in words-passed (p .0) (p .1 .1) x (m .visit .ensures)
 
 -- on along the walk
 module _ (k : tie.After-reach Inv-loop μ-loop) where
@@ -90,13 +90,10 @@ stay-of-requires c κs = search needs
 loop-holds : tie.Need-loop-holds Inv-loop μ-loop
 loop-holds c = λ r x. x
 
-rules-in-requires : tie.Need-rules-in-requires Inv-loop μ-loop
-rules-in-requires c κs = word c .command .passes
-
 visit-requires : tie.Need-visit-requires Inv-loop μ-loop
 visit-requires c κs =
-    let a = c .before .before in let p = start a .pre in
-    (p .0 .prepared .planned .small, word-roomy (p .0) (p .1 .1) (word a) (c .before .rules-in .ensures))
+    let a = c .before in let p = start a .pre in
+    (p .0 .prepared .planned .small, (word a .command .passes, word-roomy (p .0) (p .1 .1) (word a)))
 
 same-length : tie.Need-same-length Inv-loop μ-loop
 same-length c = let m = c .before .before .before .before in passed m (word (at m)) .0 .kept
@@ -109,7 +106,7 @@ returns c =
 
 spot-after-requires : tie.Need-spot-after-requires Inv-loop μ-loop
 spot-after-requires c κs =
-    let a = c .before .before .before .before .before .before .before .before in let p = start a .pre in word-spot (p .0) (p .1 .1) (word a)
+    let a = c .before .before .before .before .before .before .before in let p = start a .pre in word-spot (p .0) (p .1 .1) (word a)
 
 reach-requires : tie.Need-reach-requires Inv-loop μ-loop
 reach-requires c κs =
@@ -130,7 +127,7 @@ returns-2 c =
     standing-halt (p .0) (p .1 .1) (passed m (word (at m)) .0) (none k) (reached k) (c .before .if2 .taken) (c .leave .ensures)
 
 arrive-requires : tie.Need-arrive-requires Inv-loop μ-loop
-arrive-requires c κs = search needs
+arrive-requires c κs = reached (c .before .before .before .before .before) .command (c .if2 .left) .passes
 
 loop-less : tie.Need-loop-less Inv-loop μ-loop
 loop-less c =
@@ -162,7 +159,6 @@ run-answers-spec =
     first-at-requires
     stay-of-requires
     loop-holds
-    rules-in-requires
     visit-requires
     same-length
     returns
