@@ -113,7 +113,7 @@ tries-none Ignore tries = refl
 tries-none Repeat tries = refl
 tries-none Scan tries = refl
 
--- An answer taken -----------------------------------------------------------------------------------------------------------
+-- What a record stands for ------------------------------------------------------------------------------------------------
 
 -- the state that a record stands for: with no word left, the walk goes on behind its instruction
 unfoldable pub standing : List Visit → State → State
@@ -195,11 +195,9 @@ module _ {row : List ℕ} {answers : ℕ} (read : Read row answers) (limit : ℕ
       → bitOr (at u .status) (flagsOf limit c (at u) (Answered answer)) ≡ bitOr (r .status) (gatheredBits row from (u .taken + 1 - from))
   unfolding recordAt gatheredBits
   status n =
-      let one : suc (u .taken - from) ≡ u .taken + 1 - from = omega arith in
-      let last : u .taken ≡ from + (u .taken - from) = omega arith in
-      ap (bitOr (at u .status)) (bits n ∙ ap (λ (j : ℕ). flagBits (flagsAt row j)) last)
-      ∙ or-assoc (r .status) (gatheredBits row from (u .taken - from)) _
-      ∙ ap (λ (j : ℕ). bitOr (r .status) (gatheredBits row from j)) one
+      let one : u .taken + 1 - from ≡ suc (u .taken - from) = omega arith in
+      let last : from + (u .taken - from) ≡ u .taken = omega arith in
+      rw (bits n, one, last) (or-assoc (r .status) (gatheredBits row from (u .taken - from)) (flagBits (flagsAt row (u .taken))))
 
   module _ (w : Words (rulesOf c) row answers u 1) where
     abbrev after : Stay
@@ -228,7 +226,7 @@ module _ {row : List ℕ} {answers : ℕ} (read : Read row answers) (limit : ℕ
         let note = note-one (directionOf (c .transfer)) (c .wide) (counted limit c (Answered answer) (at u)) in
         rw (no-causes n, t .1, ← bytes)
         (on (eqb (u .left - 1) 0)
-        (λ e. rw (e, note, marks, operations, status n) (runs-alike (at after) rest halt _ _ out))
+        (λ e. rw (e, note, marks, operations, status n) (runs-alike (u .left - 1) 0 (positionAt (after .position)) rest halt _ _ out))
         (λ e. rw (e, note, tries-none (qmodeOf (c .transfer)) (u .tries), o .position (eqb-false (u .left - 1) 0 e), marks, operations, status n)))
 
     pub word-leads : Leads limit c r row from k u x after (bytesAfter (rulesOf c) row 1 u x)

@@ -8,6 +8,7 @@ use mathlib.Core.Option.{some}
 use native.Mathlib.Omega.{arith}
 use lib.ListN.{length}
 use Rattle.camac.specs.declared.words.Direction.the-variants.{Incoming}
+use Rattle.qmodes.specs.declared.scan.ScanPosition.{ScanPosition}
 use Rattle.packing.specs.Packing.{stored}
 use Rattle.packing.proofs.MarkFacts.{stored-length}
 use Rattle.listfile.specs.declared.field.Instruction.{Instruction}
@@ -15,7 +16,7 @@ use Rattle.listfile.specs.declared.field.Instruction.the-variants.{Camac, Jump,
 use Rattle.walk.specs.declared.visits.Spot.{Spot}
 use Rattle.walk.specs.Walk.{Visit, nextOf, movedBy, marksAfter}
 use Rattle.walk.proofs.Halting.{Halts}
-use Rattle.reply.specs.Effect.{waitsFor, endedAt, withMarks, putLiteral, runOn, stateOf}
+use Rattle.reply.specs.Effect.{waitsFor, endedAt, withMarks, putLiteral, runOn, waiting, stateOf}
 use Rattle.take.specs.model.Here.{advanceRun, advanceBuffer}
 use Rattle.reply.specs.declared.records.Record.{Record}
 use Rattle.take.specs.declared.Advance.the-variants.{On, At}
@@ -83,29 +84,17 @@ advance-length (Jump target) r incoming = refl
 advance-length (Literal v) r incoming = stored-length true v (r .marks .incoming) incoming
 advance-length Halt r incoming = refl
 
--- the record r at the place of another: the walk goes on from both alike
-abbrev pub atPlace : Record → Record → Record
-atPlace m r = record {
-  ended = m .ended;
-  spot = m .spot;
-  left = m .left;
-  tries = m .tries;
-  position = m .position;
-  marks = r .marks;
-  operations = r .operations;
-  status = r .status;
-  note = r .note;
-}
-
-pub runs-alike : (m : Record) (vs : List Visit) → Halts vs → (r : Record) (b out : List ℕ) → runOn vs (stateOf r b out) ≡ runOn vs (stateOf (atPlace m r) b out)
-unfolding runOn waitsFor endedAt putLiteral
-runs-alike m [] h r b out = absurd h
-runs-alike m (v ∷ vs) h r b out = at (v .instruction) h (runs-alike m vs)
-  where
-    at : (i : Instruction) → Halts (visitOf (v .spot) (v .place) i ∷ vs)
-        → (Halts vs → (r : Record) (b out : List ℕ) → runOn vs (stateOf r b out) ≡ runOn vs (stateOf (atPlace m r) b out))
-        → runOn (visitOf (v .spot) (v .place) i ∷ vs) (stateOf r b out) ≡ runOn (visitOf (v .spot) (v .place) i ∷ vs) (stateOf (atPlace m r) b out)
-    at (Camac c) h ih = refl
-    at (Jump target) h ih = ih h r b out
-    at (Literal x) h ih = ih h (withMarks (movedBy Incoming true (r .marks)) r) (stored true x (r .marks .incoming) b) out
-    at Halt h ih = refl
+-- a record that waits on, with whatever left, is gone on from as it was
+module _ (left tries : ℕ) (p : ScanPosition) where
+  pub runs-alike : (vs : List Visit) → Halts vs → (r : Record) (b out : List ℕ) → runOn vs (stateOf r b out) ≡ runOn vs (stateOf (waiting left tries p r) b out)
+  unfolding runOn waitsFor endedAt putLiteral waiting
+  runs-alike [] h r b out = absurd h
+  runs-alike (v ∷ vs) h r b out = at (v .instruction) h (runs-alike vs)
+    where
+      at : (i : Instruction) → Halts (visitOf (v .spot) (v .place) i ∷ vs)
+          → (Halts vs → (r : Record) (b out : List ℕ) → runOn vs (stateOf r b out) ≡ runOn vs (stateOf (waiting left tries p r) b out))
+          → runOn (visitOf (v .spot) (v .place) i ∷ vs) (stateOf r b out) ≡ runOn (visitOf (v .spot) (v .place) i ∷ vs) (stateOf (waiting left tries p r) b out)
+      at (Camac c) h ih = refl
+      at (Jump target) h ih = ih h r b out
+      at (Literal x) h ih = ih h (withMarks (movedBy Incoming true (r .marks)) r) (stored true x (r .marks .incoming) b) out
+      at Halt h ih = refl

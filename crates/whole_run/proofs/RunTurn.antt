@@ -361,13 +361,11 @@ module _ {z : Run} {answers : ℕ} (g : Admitted z) (answered : Answered (z .row
       abbrev arriving : Command
       arriving = commandIn (x .first) (t .command q .second)
 
-      arrives : waitsFor (x .spot) arriving carried ≡ at z (x .spot) (arrived arriving (x .marks) u)
-      unfolding recordAt waitsFor arrived
-      arrives = rw (placed-again (positionOf (arriving .transfer)) (command-placed (x .first) (t .command q .second) .subaddress))
-
       arrived-moves : MovedTo z (at z (x .spot) (arrived arriving (x .marks) u)) (u .taken) y
-      unfolding runOn
-      arrived-moves = standing-moves h (λ out. comes (Camac arriving) (t .command q .is) out ∙ ap (λ (r : Record). stateOf r y out) arrives)
+      unfolding runOn recordAt waitsFor arrived
+      arrived-moves =
+          standing-moves h (λ out. comes (Camac arriving) (t .command q .is) out
+          ∙ rw (placed-again (positionOf (arriving .transfer)) (command-placed (x .first) (t .command q .second) .subaddress)))
 
       module _ {v : Stay}
           (f : (second : ℕ) → x .words ≡ wordsOf (commandIn (x .first) second .transfer) → v ≡ arrived (commandIn (x .first) second) (x .marks) u) where
