@@ -110,9 +110,8 @@ module _ {limit : ℕ} {c : Command} {r : Record} {row : List ℕ} {answers from
       → P (afterWords (rulesOf c) (suc j) u) (bytesAfter (rulesOf c) row (suc j) u x)
   words-kept p zero w = word-kept p w
   words-kept {u} {x} p (suc j) w =
-      subst (λ (v : Stay). P v (bytesAfter (rulesOf c) row (suc (suc j)) u x)) (after-more (rulesOf c) row answers u (suc j))
-      (subst (P (afterWords (rulesOf c) 1 (afterWords (rulesOf c) (suc j) u))) (bytes-more (rulesOf c) row answers u (suc j) x)
-      (word-kept (words-kept p j (words-before (rulesOf c) row answers u j w)) (words-behind (rulesOf c) row answers u (suc j) w)))
+      rw (← after-more (rulesOf c) row answers u (suc j), ← bytes-more (rulesOf c) row answers u (suc j) x)
+      (word-kept (words-kept p j (words-before (rulesOf c) row answers u j w)) (words-behind (rulesOf c) row answers u (suc j) w))
 
   pub passed-kept : {u v : Stay} {x y : List ℕ} → P u x → Passed (rulesOf c) limit row answers u x v y → P v y
   passed-kept p none = p
