@@ -1,7 +1,7 @@
 -- What each Q-mode makes of an answer by its flags, and of a position as one number, N × 16 + A: for code that passes many answers at once.
 -- Nothing here is a rule of document 01: the laws of row/proofs/Flags hold it against specs/Modes over all flags.
 use Prim.Native.Nat.{ℕ, _+_, _-_, _*_, _/_}
-use mathlib.Core.Bool.{Bool, true, false}
+use mathlib.Core.Bool.{Bool, false}
 use lib.Dec.{ltb}
 use Rattle.base.specs.Checks.{if_then_else_}
 use Rattle.qmodes.specs.declared.modes.QMode.{QMode}
