@@ -20,7 +20,8 @@ use Rattle.camac.specs.declared.words.Direction.{Direction}
 use Rattle.camac.specs.declared.words.Direction.the-variants.{Incoming, Outgoing, Neither}
 use Rattle.packing.specs.Packing.{widthOf, markAfter, markAfterWords, stored}
 use Rattle.packing.specs.declared.Marks.{Marks}
-use Rattle.packing.proofs.MarkFacts.{mark-grows}
+use Rattle.packing.specs.model.Marks.{MarksTo}
+use Rattle.packing.proofs.MarkFacts.{mark-grows, words-even}
 use Rattle.row.specs.model.Words.{longwordIn, flagsAt, WordsAt, wordsStored}
 use Rattle.answers.specs.model.Visit.{rulesOf, rulesIn, marksBehind, NoteRoom, afterWords, bytesBy, bytesAfter, afterWait, Words, Waits, Passed, words, wait, Roomy}
 use Rattle.answers.specs.declared.Rules.{Rules}
@@ -86,6 +87,21 @@ marks-fewer d wide j k m h =
     let e : j + (k - j) ≡ k = omega arith in
     subst (λ (n : ℕ). Grown (marksBehind d wide j m) (marksBehind d wide n m)) e
     (subst (Grown (marksBehind d wide j m)) (marks-add d wide j (k - j) m) (marks-grow d wide (k - j) (marksBehind d wide j m)))
+
+marks-even : (d : Direction) (wide : Bool) (k : ℕ) (m : Marks) → m .incoming % 2 ≡ 0 → m .outgoing % 2 ≡ 0
+    → (marksBehind d wide k m .incoming % 2 ≡ 0) × (marksBehind d wide k m .outgoing % 2 ≡ 0)
+marks-even Incoming wide k m i o = (words-even wide k (m .incoming) i, o)
+marks-even Outgoing wide k m i o = (i, words-even wide k (m .outgoing) o)
+marks-even Neither wide k m i o = (i, o)
+
+-- behind one word
+module _ (d : Direction) (wide : Bool) (m : Marks) (n : ℕ) where
+  pub read-mark : d ≡ Incoming → n ≡ markAfter wide (m .incoming) → record { incoming = n; outgoing = m .outgoing } ≡ marksBehind d wide 1 m
+  unfolding markAfterWords
+  read-mark e h = rw (e, h)
+
+  pub written-mark : d ≡ Outgoing → n ≡ markAfterWords wide 1 (m .outgoing) → record { incoming = m .incoming; outgoing = n } ≡ marksBehind d wide 1 m
+  written-mark e h = rw (e, h)
 
 word-below : (wide : Bool) (k m : ℕ) → 1 ≤ k → widthOf wide ≤ markAfterWords wide k m
 unfolding markAfterWords markAfter
@@ -184,12 +200,14 @@ tries-wait Scan limit tries position h c = omega arith
 -- Room -------------------------------------------------------------------------------------------------------------------
 
 module _ (rules : Rules) (row : List ℕ) (answers : ℕ) (s : Stay) (b : List ℕ) (m : Roomy rules row answers s b) where
-  -- the marks and the place where it stands
-  pub small-incoming : s .marks .incoming ≤ 2 ^ 60
-  small-incoming = omega (arith, marks-grow (rules .direction) (rules .wide) (s .left) (s .marks) .incoming, m .small)
-
-  pub small-outgoing : s .marks .outgoing ≤ 2 ^ 60
-  small-outgoing = omega (arith, marks-grow (rules .direction) (rules .wide) (s .left) (s .marks) .outgoing, m .outgoing)
+  -- the marks where it stands
+  pub marks-to : MarksTo (2 ^ 60) (s .marks)
+  marks-to = record {
+    incoming = omega (arith, marks-grow (rules .direction) (rules .wide) (s .left) (s .marks) .incoming, m .small);
+    outgoing = omega (arith, marks-grow (rules .direction) (rules .wide) (s .left) (s .marks) .outgoing, m .outgoing);
+    incoming-even = m .incoming-even;
+    outgoing-even = m .outgoing-even;
+  }
 
   pub read-room : (k : ℕ) → k ≤ s .left → marksBehind (rules .direction) (rules .wide) k (s .marks) .incoming ≤ length b
   read-room k h = omega (arith, marks-fewer (rules .direction) (rules .wide) k (s .left) (s .marks) h .incoming, m .incoming)
@@ -205,11 +223,10 @@ module _ (rules : Rules) (row : List ℕ) (answers : ℕ) (s : Stay) (b : List �
   pub words-left : (k : ℕ) → Words rules row answers s k → k ≤ s .left
   words-left k w = omega (arith, w .ahead, ahead-most (rules .q) (s .position) (s .left))
 
-  -- what stepping behind them asks
-  pub words-room : (k : ℕ) → Words rules row answers s k → s .taken < 2 ^ 61
-      → (1 ≤ k) × ((k ≤ s .left) × ((s .left ≤ 65536) × ((s .taken < 2 ^ 61) × ((s .position < 65536)
-      × ((s .marks .incoming ≤ 2 ^ 60) × (s .marks .outgoing ≤ 2 ^ 60))))))
-  words-room k w t = (w .some, (words-left k w, (m .left, (t, (m .position, (small-incoming, small-outgoing))))))
+  -- what stepping behind them asks, with what is asked of the marks
+  pub words-with : {X : Type 0} (k : ℕ) → Words rules row answers s k → s .taken < 2 ^ 61 → X
+      → (1 ≤ k) × ((k ≤ s .left) × ((s .left ≤ 65536) × ((s .taken < 2 ^ 61) × ((s .position < 65536) × X))))
+  words-with k w t x = (w .some, (words-left k w, (m .left, (t, (m .position, x)))))
 
   pub roomy-words : (k : ℕ) → Words rules row answers s k → (b′ : List ℕ) → length b′ ≡ length b → Roomy rules row answers (afterWords rules k s) b′
   unfolding afterWords
@@ -230,6 +247,8 @@ module _ (rules : Rules) (row : List ℕ) (answers : ℕ) (s : Stay) (b : List �
         incoming = omega (arith, ap (λ (x : Marks). x .incoming) marks, m .incoming, e);
         small = omega (arith, ap (λ (x : Marks). x .incoming) marks, m .small);
         outgoing = omega (arith, ap (λ (x : Marks). x .outgoing) marks, m .outgoing);
+        incoming-even = marks-even (rules .direction) (rules .wide) k (s .marks) (m .incoming-even) (m .outgoing-even) .0;
+        outgoing-even = marks-even (rules .direction) (rules .wide) k (s .marks) (m .incoming-even) (m .outgoing-even) .1;
       }
 
   pub roomy-wait : (limit : ℕ) → limit < 65536 → Waits rules limit row answers s → Roomy rules row answers (afterWait rules s) b
@@ -245,6 +264,8 @@ module _ (rules : Rules) (row : List ℕ) (answers : ℕ) (s : Stay) (b : List �
     incoming = m .incoming;
     small = m .small;
     outgoing = m .outgoing;
+    incoming-even = m .incoming-even;
+    outgoing-even = m .outgoing-even;
   }
 
 -- some of the words that may come

@@ -18,6 +18,7 @@ ghost use Rattle.camac.specs.Words.{commandIn, directionOf};
 ghost use Rattle.qmodes.specs.model.Answers.{wordsAhead};
 ghost use Rattle.camac.specs.model.Bits.{Passes};
 ghost use Rattle.packing.specs.Packing.{markAfterWords};
+ghost use Rattle.packing.specs.model.Marks.{MarksTo};
 ghost use Rattle.row.specs.model.Words.{flagsAt};
 ghost use Rattle.answers.specs.model.Visit.{rulesIn, marksBehind, noteBehind, NoteRoom, afterWords, bytesAfter, waitedWith, afterWait, Words, Takes, Waits, Passed, Roomy};
 
@@ -72,14 +73,14 @@ fn rules_in(first: u32) -> Rules
 
 // The mark behind some words. Numbers are an admitted list's.
 fn mark_behind(wide: bool, words: usize, mark: usize) -> usize
-    requires { ⌜ (words ≤ 65536) × (mark ≤ 2 ^ 60) ⌝ }
+    requires { ⌜ (words ≤ 65536) × ((mark ≤ 2 ^ 60) × (mark % 2 ≡ 0)) ⌝ }
     ensures { λ r. ⌜ r ≡ markAfterWords wide words mark ⌝ }
 {
     packing::mark_after_words(wide, base::u64_of_size(words), base::u64_of_size(mark)) as usize
 }
 
 fn marks_behind(rules: Rules, words: usize, m: Marks) -> Marks
-    requires { ⌜ (words ≤ 65536) × ((m .incoming ≤ 2 ^ 60) × (m .outgoing ≤ 2 ^ 60)) ⌝ }
+    requires { ⌜ (words ≤ 65536) × MarksTo (2 ^ 60) m ⌝ }
     ensures { λ r. ⌜ r ≡ marksBehind (rules .direction) (rules .wide) words m ⌝ }
 {
     let direction = rules.direction;
@@ -118,16 +119,14 @@ fn note_behind(rules: Rules, marks: Marks, note: Note) -> Note
     }
 }
 
-// Behind some words. Numbers are an admitted list's.
-fn after_words(rules: Rules, here: Stay, words: usize) -> Stay
+// Behind some words, with the marks there. Numbers are an admitted list's.
+fn behind_words(rules: Rules, here: Stay, words: usize, marks: Marks) -> Stay
     requires { ⌜ (1 ≤ words) × ((words ≤ here .left) × ((here .left ≤ 65536) × ((here .taken < 2 ^ 61) × ((here .position < 65536)
-        × ((here .marks .incoming ≤ 2 ^ 60) × (here .marks .outgoing ≤ 2 ^ 60)))))) ⌝ }
+        × (marks ≡ marksBehind (rules .direction) (rules .wide) words (here .marks)))))) ⌝ }
     ensures { λ s. ⌜ s ≡ afterWords rules words here ⌝ }
 {
     let q = rules.q;
-    let before = here.marks;
     let note = here.note;
-    let marks = marks_behind(rules, words, before);
     Stay {
         taken: here.taken + words,
         left: here.left - words,
@@ -136,6 +135,15 @@ fn after_words(rules: Rules, here: Stay, words: usize) -> Stay
         marks: marks,
         note: note_behind(rules, marks, note),
     }
+}
+
+fn after_words(rules: Rules, here: Stay, words: usize) -> Stay
+    requires { ⌜ (1 ≤ words) × ((words ≤ here .left) × ((here .left ≤ 65536) × ((here .taken < 2 ^ 61) × ((here .position < 65536)
+        × MarksTo (2 ^ 60) (here .marks))))) ⌝ }
+    ensures { λ s. ⌜ s ≡ afterWords rules words here ⌝ }
+{
+    let before = here.marks;
+    behind_words(rules, here, words, marks_behind(rules, words, before))
 }
 
 // The words from here on, whose first is known to be one: up to `most`, each stored where it is read.
@@ -177,19 +185,24 @@ fn take_words(
     }
 }
 
-// The one word left, stored where it is read.
-fn last_word(rules: Rules, here: Stay, incoming: &mut [u8], row: &[u8], answers: usize)
+// The one word left, stored where it is read: the marks behind it.
+fn last_word(rules: Rules, here: Stay, incoming: &mut [u8], row: &[u8], answers: usize) -> Marks
     requires { ⌜ Roomy rules (now row) answers here (now incoming) × Words rules (now row) answers here 1 ⌝ }
-    ensures { λ r. ⌜ now (incoming .exit) ≡ bytesAfter rules (now (row .entry)) 1 here (now (incoming .entry)) ⌝ }
+    ensures { λ m. ⌜ (m ≡ marksBehind (rules .direction) (rules .wide) 1 (here .marks))
+        × (now (incoming .exit) ≡ bytesAfter rules (now (row .entry)) 1 here (now (incoming .entry))) ⌝ }
 {
     let direction = rules.direction;
     let marks = here.marks;
     match direction {
-        Direction::Incoming => {
-            read_word(rules.wide, incoming, marks.incoming, row, here.taken);
-        }
-        Direction::Outgoing => {}
-        Direction::Neither => {}
+        Direction::Incoming => Marks {
+            incoming: read_word(rules.wide, incoming, marks.incoming, row, here.taken),
+            outgoing: marks.outgoing,
+        },
+        Direction::Outgoing => Marks {
+            incoming: marks.incoming,
+            outgoing: mark_behind(rules.wide, 1, marks.outgoing),
+        },
+        Direction::Neither => marks,
     }
 }
 
@@ -306,8 +319,8 @@ pub fn visit(
 {
     if is_last(first, from, row, answers) {
         let rules = rules_in(first);
-        last_word(rules, from, incoming, row, answers);
-        return after_words(rules, from, 1);
+        let marks = last_word(rules, from, incoming, row, answers);
+        return behind_words(rules, from, 1, marks);
     }
     visit_on(rules_in(first), limit, from, incoming, row, answers)
 }

@@ -1,12 +1,12 @@
 -- A row of bytes stored from a place on, of any length: each byte of it is read there, and every other byte stays. So a number that was put
--- is the number that is read.
+-- is the number that is read, and a row stored over another leaves of it what lies before.
 use Prim.Native.Nat.{ℕ, zero, suc, _+_, _*_, _/_, _%_, _^_, _≤_, _<_}
-use mathlib.Core.Path.{_≡_, refl, _∙_}
-use mathlib.Core.List.{List, [], _∷_}
+use mathlib.Core.Path.{_≡_, refl, ap, _∙_}
+use mathlib.Core.List.{List, [], _∷_, _++_}
 use native.Mathlib.Omega.{arith}
-use native.Mathlib.Nat.{div-div-eq-div-mul}
-use lib.ListN.{length, getD, set, length-set}
-use lib.Seq.{sets, getD-set-same, getD-set-other}
+use native.Mathlib.Nat.{add-zero, div-div-eq-div-mul}
+use lib.ListN.{length, getD, set, replicate, length-set, length-replicate}
+use lib.Seq.{sets, set-set, set-comm, getD-set-same, getD-set-other}
 use Rattle.base.specs.Bytes.{byteAt, shortAt, longAt, quadAt, shortBytes, longBytes, quadBytes}
 
 -- a byte before the row, or behind it
@@ -25,13 +25,41 @@ sets-at l i (v ∷ vs) h j zero e b =
     rw here (sets-other (set l i v) (suc i) vs i (λ g. absurd (omega arith)) ∙ getD-set-same l i v 0 (omega arith))
 sets-at l i (v ∷ vs) h j (suc k) e b = sets-at (set l i v) (suc i) vs (simp length-set (omega arith)) j k (omega arith) (omega arith)
 
+-- One row over another ---------------------------------------------------------------------------------------------------
+
+-- a byte before a row, stored behind it or before it
+set-before : (l : List ℕ) (i : ℕ) (vs : List ℕ) (j a : ℕ) → j < i → set (sets l i vs) j a ≡ sets (set l j a) i vs
+set-before l i [] j a h = refl
+set-before l i (v ∷ vs) j a h =
+    set-before (set l i v) (suc i) vs j a (omega arith)
+    ∙ ap (λ (x : List ℕ). sets x (suc i) vs) (set-comm l i j v a (λ e. omega arith))
+
+-- a row over one that is not longer
+sets-over : (l : List ℕ) (i : ℕ) (us vs : List ℕ) → length us ≤ length vs → sets (sets l i us) i vs ≡ sets l i vs
+sets-over l i [] vs h = refl
+sets-over l i (u ∷ us) [] h = absurd (omega arith)
+sets-over l i (u ∷ us) (v ∷ vs) h =
+    ap (λ (x : List ℕ). sets x (suc i) vs)
+    (set-before (set l i u) (suc i) us i v (omega arith) ∙ ap (λ (x : List ℕ). sets x (suc i) us) (set-set l i u v))
+    ∙ sets-over (set l i v) (suc i) us vs (omega arith)
+
+-- a row over n zeros, from k of them on: k zeros are left before it
+pub zeros-left : (l : List ℕ) (i n k : ℕ) (vs : List ℕ) → k ≤ n → n ≤ k + length vs
+    → sets (sets l i (replicate n 0)) (i + k) vs ≡ sets l i (replicate k 0 ++ vs)
+zeros-left l i n zero vs h g = rw (add-zero i) (sets-over l i (replicate n 0) vs (omega (arith, length-replicate {A = ℕ} n 0)))
+zeros-left l i zero (suc k) vs h g = absurd (omega arith)
+zeros-left l i (suc n) (suc k) vs h g =
+    let next : i + suc k ≡ suc i + k = omega arith in
+    rw next (zeros-left (set l i 0) (suc i) n k vs (omega arith) (omega arith))
+
+-- What is read is what was put -----------------------------------------------------------------------------------------------
+
 short-sum : (v : ℕ) → v % 256 + v / 256 % 256 * 256 ≡ v % 65536
 short-sum v = omega (arith, div-div-eq-div-mul v 256 256)
 
 long-sum : (v : ℕ) → v < 4294967296 → v % 256 + v / 256 % 256 * 256 + (v / 65536 % 256 + v / 16777216 % 256 * 256) * 65536 ≡ v
 long-sum v b = rw (← div-div-eq-div-mul v 65536 256, short-sum v, short-sum (v / 65536)) (omega arith)
 
--- what is read is what was put, at each width
 module _ (l : List ℕ) (i v : ℕ) where
   pub short-put : i + 2 ≤ length l → v < 65536 → shortAt (sets l i (shortBytes v)) i ≡ v
   unfolding shortAt byteAt

@@ -8,13 +8,14 @@ ghost use mathlib.Core.Path.{_≡_};
 ghost use Prim.Native.Nat.{_+_, _^_, _≤_};
 ghost use Rattle.camac.specs.Words.{wordsOf};
 ghost use lib.Dec.{leb};
+ghost use Rattle.packing.specs.model.Marks.{MarksTo};
 ghost use Rattle.walk.specs.Walk.{movedWords};
 ghost use Rattle.calls.specs.Fit.{marksFit, noteFits, fitsAt};
 ghost use Rattle.calls.specs.model.Bounds.{Bounded, fitsCommand, fitsWalk};
 
-// The marks after some words. A block has at most 65,536 words, and admission's marks are below 2^60.
+// The marks after some words. A block has at most 65,536 words, and admission's marks are even and below 2^60.
 pub fn moved_words(words: u64, c: Command, m: Marks) -> Marks
-    requires { ⌜ (words ≤ 2 ^ 16) × ((m .incoming ≤ 2 ^ 60) × (m .outgoing ≤ 2 ^ 60)) ⌝ }
+    requires { ⌜ (words ≤ 2 ^ 16) × MarksTo (2 ^ 60) m ⌝ }
     ensures { λ r. ⌜ r ≡ movedWords words c m ⌝ }
 {
     let t = c.transfer;
@@ -43,7 +44,7 @@ pub fn moved_words(words: u64, c: Command, m: Marks) -> Marks
 
 // Whether a record's marks are the walk's with the moved words. Words and marks are an admitted list's.
 fn marks_fit(c: Command, m: Marks, r: Record) -> bool
-    requires { ⌜ (wordsOf (c .transfer) ≤ 2 ^ 16) × ((m .incoming ≤ 2 ^ 60) × (m .outgoing ≤ 2 ^ 60)) ⌝ }
+    requires { ⌜ (wordsOf (c .transfer) ≤ 2 ^ 16) × MarksTo (2 ^ 60) m ⌝ }
     ensures { λ x. ⌜ x ≡ marksFit c m r ⌝ }
 {
     let t = c.transfer;

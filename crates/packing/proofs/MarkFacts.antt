@@ -1,15 +1,17 @@
--- Fill marks never fall, stay even, and have a closed form over the words: a pad can come before the first word only.
--- What is stored lies between the mark and the mark after it.
+-- Fill marks never fall, stay even, and have a closed form over the words: behind its pad a 24-bit word from an even mark lies at a multiple of 4,
+-- so that a pad can come before the first only. What is stored lies between the mark and the mark after it.
 use Prim.Native.Nat.{ℕ, zero, suc, _+_, _*_, _%_, _≤_, _<_}
 use mathlib.Core.Path.{_≡_, refl}
 use mathlib.Core.Bool.{Bool, true, false}
 use mathlib.Core.List.{List, _++_}
 use native.Mathlib.Omega.{arith}
-use borrow.Author.Tests.{ne-eqb, eqb-true, eqb-false}
+use borrow.Author.Tests.{eqb-true, eqb-false}
 use lib.Dec.{eqb}
 use lib.ListN.{length, getD, replicate, length-append, length-replicate}
-use lib.Seq.{length-sets}
-use Rattle.base.proofs.Puts.{sets-other}
+use lib.Seq.{sets, length-sets}
+use Rattle.base.specs.Bytes.{longBytes}
+use Rattle.base.specs.Checks.{if_then_else_}
+use Rattle.base.proofs.Puts.{sets-other, zeros-left}
 use Rattle.base.proofs.Tests.{on}
 use Rattle.packing.specs.Packing.{padAt, alignedMark, widthOf, markAfter, markAfterWords, bytesOf, stored}
 
@@ -17,35 +19,56 @@ pub mark-grows : (wide : Bool) (m : ℕ) → m ≤ markAfter wide m
 unfolding markAfter alignedMark
 mark-grows wide m = omega arith
 
+-- The aligned mark -------------------------------------------------------------------------------------------------------
+
+module _ (m : ℕ) (even : m % 2 ≡ 0) where
+  -- for an even mark the sum is a multiple of 4, not below the mark, and not above any other such
+  pub aligned-multiple : alignedMark true m % 4 ≡ 0
+  unfolding alignedMark padAt
+  aligned-multiple = omega arith
+
+  pub aligned-least : (n : ℕ) → n % 4 ≡ 0 → m ≤ n → alignedMark true m ≤ n
+  unfolding alignedMark padAt
+  aligned-least n h g = omega arith
+
+  -- and the pad by the sum is the pad by the test: "If the mark modulo 4 is 2, two zero bytes come first"
+  pub pad-as-before : padAt true m ≡ (if eqb (m % 4) 2 then 2 else 0)
+  unfolding padAt
+  pad-as-before =
+      on (eqb (m % 4) 2)
+      (λ e. rw e (eqb-true (m % 4) 2 e))
+      (λ e. let h : m % 4 ≡ 2 → ⊥ = eqb-false (m % 4) 2 e in rw e (omega arith))
+
+pub aligned-above : (m : ℕ) → m ≤ alignedMark true m
+unfolding alignedMark
+aligned-above m = omega arith
+
 pub mark-even : (wide : Bool) (m : ℕ) → m % 2 ≡ 0 → markAfter wide m % 2 ≡ 0
 unfolding markAfter alignedMark padAt widthOf
 mark-even false m h = omega arith
-mark-even true m h = on (eqb (m % 4) 2) (λ e. rw e (omega arith)) (λ e. rw e (omega arith))
+mark-even true m h = omega arith
 
--- behind its pad an even mark is the least multiple of 4 from it on
-pub aligned-least : (m : ℕ) → m % 2 ≡ 0 → alignedMark true m ≡ m + m % 4
-unfolding alignedMark padAt
-aligned-least m h =
-    on (eqb (m % 4) 2)
-    (λ e. let q : m % 4 ≡ 2 = eqb-true (m % 4) 2 e in rw e (omega arith))
-    (λ e. let q : m % 4 ≡ 2 → ⊥ = eqb-false (m % 4) 2 e in rw e (omega arith))
+pub words-even : (wide : Bool) (n m : ℕ) → m % 2 ≡ 0 → markAfterWords wide n m % 2 ≡ 0
+unfolding markAfterWords
+words-even wide zero m h = h
+words-even wide (suc n) m h = mark-even wide (markAfterWords wide n m) (words-even wide n m h)
+
+-- Words one after the other ----------------------------------------------------------------------------------------------
 
 -- after the first word no pad comes
-word-more : (wide : Bool) (n m : ℕ)
-    → markAfter wide (m + padAt wide m + suc n * widthOf wide) ≡ m + padAt wide m + suc (suc n) * widthOf wide
+word-more : (wide : Bool) (n m : ℕ) → m % 2 ≡ 0
+    → markAfter wide (alignedMark wide m + suc n * widthOf wide) ≡ alignedMark wide m + suc (suc n) * widthOf wide
 unfolding markAfter alignedMark padAt widthOf
-word-more false n m = omega arith
-word-more true n m =
-    on (eqb (m % 4) 2)
-    (λ e. let h : m % 4 ≡ 2 = eqb-true (m % 4) 2 e in
-    rw (e, ne-eqb ((m + 2 + suc n * 4) % 4) 2 (λ q. omega arith)) (omega arith))
-    (λ e. let h : m % 4 ≡ 2 → ⊥ = eqb-false (m % 4) 2 e in
-    rw (e, ne-eqb ((m + 0 + suc n * 4) % 4) 2 (λ q. omega arith)) (omega arith))
+word-more false n m h = omega arith
+word-more true n m h = omega arith
 
-pub words-closed : (wide : Bool) (n m : ℕ) → markAfterWords wide (suc n) m ≡ m + padAt wide m + suc n * widthOf wide
-unfolding markAfterWords markAfter alignedMark
-words-closed wide zero m = omega arith
-words-closed wide (suc n) m = rw (words-closed wide n m) (word-more wide n m)
+pub words-closed : (wide : Bool) (n m : ℕ) → m % 2 ≡ 0 → 1 ≤ n → markAfterWords wide n m ≡ alignedMark wide m + n * widthOf wide
+unfolding markAfterWords markAfter
+words-closed wide zero m h some = absurd (omega arith)
+words-closed wide (suc zero) m h some = omega arith
+words-closed wide (suc (suc n)) m h some = rw (words-closed wide (suc n) m h (omega arith)) (word-more wide n m h)
+
+-- What is stored ---------------------------------------------------------------------------------------------------------
 
 bytes-length : (wide : Bool) (v : ℕ) → length (bytesOf wide v) ≡ widthOf wide
 unfolding widthOf
@@ -67,6 +90,12 @@ stored-beyond wide v m buffer i h =
       length-replicate {A = ℕ} (padAt wide m) 0,
       bytes-length wide v,
     ))
+
+-- a word over four zeros at the mark
+pub stored-over : (v m : ℕ) (buffer : List ℕ)
+    → sets (sets buffer m (replicate 4 0)) (alignedMark true m) (longBytes v) ≡ stored true v m buffer
+unfolding stored alignedMark padAt
+stored-over v m buffer = zeros-left buffer m 4 (m % 4) (longBytes v) (omega arith) (omega arith)
 
 pub stored-below : (wide : Bool) (v m : ℕ) (buffer : List ℕ) (i : ℕ)
     → i < m → getD (stored wide v m buffer) i 0 ≡ getD buffer i 0

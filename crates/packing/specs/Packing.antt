@@ -2,15 +2,15 @@
 use Prim.Native.Nat.{ℕ, zero, suc, _+_, _*_, _%_}
 use mathlib.Core.Bool.{Bool, true, false}
 use mathlib.Core.List.{List, _++_}
-use lib.Dec.{eqb}
 use lib.ListN.{replicate, getD}
 use lib.Seq.{sets}
 use Rattle.base.specs.Bytes.{shortBytes, longBytes}
 use Rattle.base.specs.Checks.{if_then_else_}
 
--- "If the mark modulo 4 is 2, two zero bytes come first": before a 24-bit word or a literal
+-- "If the mark modulo 4 is 2, two zero bytes come first": before a 24-bit word or a literal. "The fill mark is always even, so the aligned mark
+-- is mark + mark modulo 4" (E3): for an even mark these are the same, pad-as-before in proofs/MarkFacts
 unfoldable pub padAt : Bool → ℕ → ℕ
-padAt wide mark = if wide then if eqb (mark % 4) 2 then 2 else 0 else 0
+padAt wide mark = if wide then mark % 4 else 0
 
 -- where the word itself goes, behind its pad
 unfoldable pub alignedMark : Bool → ℕ → ℕ

@@ -1,25 +1,16 @@
 // Packing: fill marks, and the bytes of words and literals in the host's buffers.
 ghost use mathlib.Core.Path.{_≡_};
-ghost use Prim.Native.Nat.{_+_, _%_, _^_, _<_, _≤_};
+ghost use mathlib.Core.Bool.{true};
+ghost use Prim.Native.Nat.{ℕ, _+_, _%_, _^_, _<_, _≤_};
 ghost use lib.ListN.{length};
-ghost use Rattle.packing.specs.Packing.{padAt, alignedMark, widthOf, markAfter, markAfterWords, stored, wordAt};
+ghost use lib.Seq.{sets};
+ghost use Rattle.base.specs.Bytes.{longBytes};
+ghost use Rattle.packing.specs.Packing.{alignedMark, widthOf, markAfter, markAfterWords, stored, wordAt};
 
 // The two fill marks: the bytes used so far of the incoming and of the outgoing buffer.
 pub struct Marks {
     pub incoming: usize,
     pub outgoing: usize,
-}
-
-pub fn pad_at(wide: bool, mark: usize) -> usize
-    ensures { λ r. ⌜ (r ≡ padAt wide mark) × (r ≤ 2) ⌝ }
-{
-    if wide {
-        if mark % 4 == 2 {
-            return 2;
-        }
-        return 0;
-    }
-    0
 }
 
 pub fn width_of(wide: bool) -> usize
@@ -31,34 +22,44 @@ pub fn width_of(wide: bool) -> usize
 // Where a word goes, behind its pad. Every mark is below 2^63: it counts bytes of a buffer.
 pub fn aligned_mark(wide: bool, mark: usize) -> usize
     requires { ⌜ mark < 2 ^ 63 ⌝ }
-    ensures { λ r. ⌜ (r ≡ alignedMark wide mark) × (r ≤ mark + 2) ⌝ }
+    ensures { λ r. ⌜ (r ≡ alignedMark wide mark) × (r ≤ mark + 3) ⌝ }
 {
-    mark + pad_at(wide, mark)
+    if wide { mark + mark % 4 } else { mark }
 }
 
 // The mark after one word. Every mark is below 2^63: it counts bytes of a buffer.
 pub fn mark_after(wide: bool, mark: usize) -> usize
     requires { ⌜ mark < 2 ^ 63 ⌝ }
-    ensures { λ r. ⌜ (r ≡ markAfter wide mark) × (r ≤ mark + 6) ⌝ }
+    ensures { λ r. ⌜ (r ≡ markAfter wide mark) × (r ≤ mark + 7) ⌝ }
 {
     aligned_mark(wide, mark) + width_of(wide)
 }
 
-// The mark after n words. Admission's marks are sums over at most 4,096 instructions of at most 2^32 words each.
+// The mark after n words, from an even one: a pad can come before the first only. Admission's marks are sums over at most 4,096 instructions
+// of at most 2^32 words each.
 pub fn mark_after_words(wide: bool, words: u64, mark: u64) -> u64
-    requires { ⌜ (mark ≤ 2 ^ 62) × (words ≤ 2 ^ 32) ⌝ }
+    requires { ⌜ (mark ≤ 2 ^ 62) × ((words ≤ 2 ^ 32) × (mark % 2 ≡ 0)) ⌝ }
     ensures { λ r. ⌜ r ≡ markAfterWords wide words mark ⌝ }
 {
     if words == 0 {
         return mark;
     }
     if wide {
-        if mark % 4 == 2 {
-            return mark + 2 + words * 4;
-        }
-        return mark + words * 4;
+        return mark + mark % 4 + words * 4;
     }
     mark + words * 2
+}
+
+// Makes a buffer ready for a 24-bit word or a literal at the mark: where it goes, with zeros before it. Zeros that are no pad lie where its bytes
+// go, so that nothing here depends on the mark's remainder.
+pub fn pad(buffer: &mut [u8], mark: usize) -> usize
+    requires { ⌜ markAfter true mark ≤ length (now buffer) ⌝ }
+    ensures { λ r. ⌜ (r ≡ alignedMark true mark)
+        × ((v : ℕ) → sets (now (buffer .exit)) r (longBytes v) ≡ stored true v mark (now (buffer .entry))) ⌝ }
+{
+    let to = aligned_mark(true, mark);
+    base::put_long(buffer, mark, 0);
+    to
 }
 
 // A word or literal at the mark, behind its pad. The room is there: no mark passes B, and admission holds B against the buffer.
@@ -67,12 +68,8 @@ pub fn store(buffer: &mut [u8], mark: usize, wide: bool, v: u32)
     ensures { λ r. ⌜ now (buffer .exit) ≡ stored wide v mark (now (buffer .entry)) ⌝ }
 {
     if wide {
-        if mark % 4 == 2 {
-            base::put_short(buffer, mark, 0);
-            base::put_long(buffer, mark + 2, v);
-        } else {
-            base::put_long(buffer, mark, v);
-        }
+        let to = pad(buffer, mark);
+        base::put_long(buffer, to, v);
     } else {
         base::put_short(buffer, mark, v);
     }

@@ -1,24 +1,24 @@
 -- Words of a row: what a formed row says of each reply, and the words read in the incoming buffer. A pad can come before the first word only, so
 -- the k-th word lies k widths behind the first, and the bytes of a word are those of its answer.
 use Prim.Native.Nat.{ℕ, zero, suc, _+_, _*_, _/_, _%_, _≤_, _<_}
-use mathlib.Core.Path.{_≡_, refl, sym, ap, _∙_, subst}
+use mathlib.Core.Path.{_≡_, refl, sym, _∙_, subst}
 use mathlib.Core.Bool.{Bool, true, false, _&&_}
 use mathlib.Core.List.{List}
 use mathlib.Core.Option.{some}
 use native.Mathlib.Omega.{arith}
-use native.Mathlib.Numerals.{add-one, add-two}
+use native.Mathlib.Numerals.{add-one}
 use native.Mathlib.Nat.{add-zero}
 use borrow.Author.Count.{below-more}
-use borrow.Author.Tests.{eq-eqb, ne-eqb, eqb-true, eqb-false, ltb-true}
+use borrow.Author.Tests.{eq-eqb, eqb-true, ltb-true}
 use lib.Bits.{bitAnd}
 use lib.Dec.{eqb, ltb}
-use lib.ListN.{length, getD, take, drop, replicate}
+use lib.ListN.{length, getD, take, drop}
 use lib.Seq.{sets}
 use Rattle.base.specs.Bytes.{byteAt, shortBytes, longBytes}
 use Rattle.base.proofs.Bools.{and-left, and-right}
 use Rattle.base.proofs.Tests.{on, true-not-false}
 use Rattle.packing.specs.Packing.{padAt, alignedMark, widthOf, markAfter, markAfterWords, stored}
-use Rattle.packing.proofs.MarkFacts.{words-closed, stored-length}
+use Rattle.packing.proofs.MarkFacts.{aligned-multiple, words-closed, stored-length}
 use Rattle.reply.specs.Replies.{hasForm, replyOf, isFormed, repliesIn, allFormed}
 use Rattle.reply.specs.Effect.{longwordOf}
 use Rattle.reply.specs.declared.replies.Reply.the-variants.{Answered}
@@ -131,45 +131,25 @@ longword-bytes row at low middle high = bytes _ _ _ low middle high
 -- Marks ------------------------------------------------------------------------------------------------------------------
 
 pub narrow-mark : (k mark : ℕ) → markAfterWords false k mark ≡ mark + k * 2
-unfolding markAfterWords padAt widthOf
+unfolding markAfterWords markAfter alignedMark padAt widthOf
 narrow-mark zero mark = omega arith
-narrow-mark (suc k) mark = words-closed false k mark ∙ omega arith
+narrow-mark (suc k) mark = omega (arith, narrow-mark k mark)
 
-module _ (mark : ℕ) where
-  pub pad-two : mark % 4 ≡ 2 → padAt true mark ≡ 2
-  unfolding padAt
-  pad-two h = rw (eq-eqb (mark % 4) 2 h)
+-- from an even mark on, the k-th word lies k words behind the first
+pub aligned-words : (k mark : ℕ) → mark % 2 ≡ 0 → 1 ≤ k → markAfterWords true k mark ≡ alignedMark true mark + k * 4
+unfolding widthOf
+aligned-words k mark even h = words-closed true k mark even h
 
-  pub pad-none : ¬ (mark % 4 ≡ 2) → padAt true mark ≡ 0
-  unfolding padAt
-  pad-none h = rw (ne-eqb (mark % 4) 2 h)
+-- from a multiple of 4 on, without a pad
+module _ (mark : ℕ) (four : mark % 4 ≡ 0) where
+  aligned-same : alignedMark true mark ≡ mark
+  unfolding alignedMark padAt
+  aligned-same = omega arith
 
-  pub aligned-two : mark % 4 ≡ 2 → alignedMark true mark ≡ mark + 2
-  unfolding alignedMark
-  aligned-two h = rw (pad-two h)
-
-  pub aligned-none : ¬ (mark % 4 ≡ 2) → alignedMark true mark ≡ mark
-  unfolding alignedMark
-  aligned-none h = rw (pad-none h) (add-zero mark)
-
-wide-mark : (k mark : ℕ) → ¬ (mark % 4 ≡ 2) → markAfterWords true k mark ≡ mark + k * 4
-unfolding markAfterWords widthOf
-wide-mark zero mark h = omega arith
-wide-mark (suc k) mark h =
-    words-closed true k mark ∙ ap (λ (pad : ℕ). mark + pad + suc k * 4) (pad-none mark h) ∙ omega arith
-
--- behind its pad a word is aligned
-pub aligned-right : (mark : ℕ) → ¬ (alignedMark true mark % 4 ≡ 2)
-unfolding alignedMark padAt
-aligned-right mark =
-    on (eqb (mark % 4) 2)
-    (λ e. let h : mark % 4 ≡ 2 = eqb-true (mark % 4) 2 e in rw e (λ g. omega arith))
-    (λ e. let h : ¬ (mark % 4 ≡ 2) = eqb-false (mark % 4) 2 e in rw e (λ g. omega arith))
-
-pub aligned-words : (k mark : ℕ) → 1 ≤ k → markAfterWords true k mark ≡ alignedMark true mark + k * 4
-unfolding alignedMark widthOf
-aligned-words zero mark h = absurd (omega arith)
-aligned-words (suc k) mark h = words-closed true k mark
+  wide-mark : (k : ℕ) → markAfterWords true k mark ≡ mark + k * 4
+  unfolding markAfterWords
+  wide-mark zero = omega arith
+  wide-mark (suc k) = omega (arith, aligned-same, aligned-words (suc k) mark (omega arith) (omega arith))
 
 pub narrow-room : (mark : ℕ) → markAfter false mark ≡ mark + 2
 unfolding markAfter alignedMark padAt widthOf
@@ -185,15 +165,9 @@ pub stored-narrow : (v mark : ℕ) (buffer : List ℕ) → stored false v mark b
 unfolding stored padAt
 stored-narrow v mark buffer = refl
 
--- the pad, then the word behind it
-pub stored-wide : (v mark : ℕ) (buffer : List ℕ)
-    → stored true v mark buffer ≡ sets (sets buffer mark (replicate (padAt true mark) 0)) (alignedMark true mark) (longBytes v)
-unfolding stored alignedMark padAt
-stored-wide v mark buffer = on (eqb (mark % 4) 2) (λ e. rw (e, add-two)) (λ e. rw (e, add-zero))
-
-stored-bare : (v mark : ℕ) (buffer : List ℕ) → ¬ (mark % 4 ≡ 2) → stored true v mark buffer ≡ sets buffer mark (longBytes v)
-unfolding stored
-stored-bare v mark buffer h = rw (pad-none mark h)
+stored-bare : (v mark : ℕ) (buffer : List ℕ) → mark % 4 ≡ 0 → stored true v mark buffer ≡ sets buffer mark (longBytes v)
+unfolding stored padAt
+stored-bare v mark buffer h = rw h
 
 module _ (row : List ℕ) (from mark : ℕ) where
   pub stored-none : (wide : Bool) (buffer : List ℕ) → buffer ≡ wordsStored wide row from mark 0 buffer
@@ -217,27 +191,28 @@ module _ (row : List ℕ) (from mark : ℕ) where
   narrow-more k before now e =
       rw (add-one k, stored-more false k before, ← e, narrow-mark k mark) (sym (stored-narrow _ (mark + k * 2) now))
 
-  pub wide-more : ¬ (mark % 4 ≡ 2) → (k : ℕ) (before now : List ℕ) → now ≡ wordsStored true row from mark k before
+  pub wide-more : mark % 4 ≡ 0 → (k : ℕ) (before now : List ℕ) → now ≡ wordsStored true row from mark k before
       → sets now (mark + k * 4) (longBytes (longwordIn row ((from + k) * 8))) ≡ wordsStored true row from mark (k + 1) before
   wide-more h k before now e =
-      rw (add-one k, stored-more true k before, ← e, wide-mark k mark h) (sym (stored-bare _ (mark + k * 4) now (λ z. h (omega arith))))
+      rw (add-one k, stored-more true k before, ← e, wide-mark mark h k) (sym (stored-bare _ (mark + k * 4) now (omega arith)))
 
 first-stored : (row : List ℕ) (from mark : ℕ) (buffer : List ℕ)
     → wordsStored true row from mark 1 buffer ≡ stored true (longwordIn row ((from + 0) * 8)) mark buffer
 unfolding wordsStored markAfterWords
 first-stored row from mark buffer = refl
 
--- words behind a pad that is written first
-pub padded-words : (row : List ℕ) (from mark k : ℕ) (buffer : List ℕ) → 1 ≤ k
-    → wordsStored true row from (alignedMark true mark) k (sets buffer mark (replicate (padAt true mark) 0))
-    ≡ wordsStored true row from mark k buffer
-padded-words row from mark zero buffer h = absurd (omega arith)
-padded-words row from mark (suc zero) buffer h =
-    first-stored row from (alignedMark true mark) _
-    ∙ stored-bare _ (alignedMark true mark) _ (aligned-right mark)
-    ∙ sym (first-stored row from mark buffer ∙ stored-wide _ mark buffer)
-padded-words row from mark (suc (suc k)) buffer h =
+-- words behind a pad: where each word put behind it is stored as at the mark, all are
+pub padded-words : (row : List ℕ) (from mark k : ℕ) (buffer padded : List ℕ) → mark % 2 ≡ 0
+    → ((v : ℕ) → sets padded (alignedMark true mark) (longBytes v) ≡ stored true v mark buffer) → 1 ≤ k
+    → wordsStored true row from (alignedMark true mark) k padded ≡ wordsStored true row from mark k buffer
+padded-words row from mark zero buffer padded even over h = absurd (omega arith)
+padded-words row from mark (suc zero) buffer padded even over h =
+    first-stored row from (alignedMark true mark) padded
+    ∙ stored-bare _ (alignedMark true mark) padded (aligned-multiple mark even)
+    ∙ over _
+    ∙ sym (first-stored row from mark buffer)
+padded-words row from mark (suc (suc k)) buffer padded even over h =
     let same : markAfterWords true (suc k) (alignedMark true mark) ≡ markAfterWords true (suc k) mark =
-    wide-mark (suc k) (alignedMark true mark) (aligned-right mark) ∙ sym (aligned-words (suc k) mark (omega arith)) in
-    stored-more row from (alignedMark true mark) true (suc k) _
-    ∙ rw (same, padded-words row from mark (suc k) buffer (omega arith)) (sym (stored-more row from mark true (suc k) buffer))
+    wide-mark (alignedMark true mark) (aligned-multiple mark even) (suc k) ∙ sym (aligned-words (suc k) mark even (omega arith)) in
+    stored-more row from (alignedMark true mark) true (suc k) padded
+    ∙ rw (same, padded-words row from mark (suc k) buffer padded even over (omega arith)) (sym (stored-more row from mark true (suc k) buffer))

@@ -4,10 +4,10 @@ ghost use mathlib.Core.Bool.{true, false};
 ghost use Prim.Native.Nat.{_+_, _*_, _%_, _<_, _≤_};
 ghost use lib.Bits.{bitAnd};
 ghost use lib.Dec.{eqb};
-ghost use lib.ListN.{length, getD, replicate};
+ghost use lib.ListN.{length, getD};
 ghost use lib.Seq.{sets};
 ghost use Rattle.base.specs.Bytes.{shortBytes, longBytes};
-ghost use Rattle.packing.specs.Packing.{padAt, alignedMark, markAfter, markAfterWords, stored};
+ghost use Rattle.packing.specs.Packing.{markAfter, markAfterWords, stored};
 ghost use Rattle.reply.specs.Replies.{repliesIn, allFormed};
 ghost use Rattle.row.specs.model.Words.{longwordIn, flagsAt, WordsAt, wordsStored};
 
@@ -61,19 +61,6 @@ fn put_wide(incoming: &mut [u8], to: usize, row: &[u8], at: usize)
     incoming[to + 3] = zero;
 }
 
-// The mark behind a pad, with the pad written.
-fn pad(incoming: &mut [u8], mark: usize) -> usize
-    requires { ⌜ alignedMark true mark ≤ length (now incoming) ⌝ }
-    ensures { λ r. ⌜ (r ≡ alignedMark true mark) × (now (incoming .exit) ≡ sets (now (incoming .entry)) mark (replicate (padAt true mark) 0)) ⌝ }
-{
-    if mark % 4 == 2 {
-        incoming[mark] = 0;
-        incoming[mark + 1] = 0;
-        return mark + 2;
-    }
-    mark
-}
-
 // Words of 16 bits read: their number, up to `most`, each stored.
 fn read_narrow(
     incoming: &mut [u8],
@@ -99,7 +86,7 @@ fn read_narrow(
     k
 }
 
-// Words of 24 bits read, the first of them without a pad: their number, each stored.
+// Words of 24 bits read, from a multiple of 4 on: their number, each stored.
 fn read_wide(
     incoming: &mut [u8],
     mark: usize,
@@ -108,7 +95,7 @@ fn read_wide(
     most: usize,
     mask: u8,
 ) -> usize
-    requires { ⌜ ((from + most) * 8 ≤ length (now row)) × ((mark + most * 4 ≤ length (now incoming)) × ((¬ (mark % 4 ≡ 2))
+    requires { ⌜ ((from + most) * 8 ≤ length (now row)) × ((mark + most * 4 ≤ length (now incoming)) × ((mark % 4 ≡ 0)
         × (allFormed (repliesIn (now row)) ≡ true))) ⌝ }
     ensures { λ k. ⌜ (k ≤ most) × (WordsAt mask (now (row .entry)) from k
         × ((1 ≤ most → eqb (bitAnd (flagsAt (now (row .entry)) from) mask) (mask % 4) ≡ true → 1 ≤ k)
@@ -125,7 +112,7 @@ fn read_wide(
     k
 }
 
-// Words read: their number, each stored. The first is known to be one.
+// Words read, from an even mark on: their number, each stored. The first is known to be one.
 pub fn read_words(
     wide: bool,
     incoming: &mut [u8],
@@ -136,26 +123,29 @@ pub fn read_words(
     mask: u8,
 ) -> usize
     requires { ⌜ (1 ≤ most) × (((from + most) * 8 ≤ length (now row)) × ((markAfterWords wide most mark ≤ length (now incoming))
-        × ((allFormed (repliesIn (now row)) ≡ true) × (WordsAt mask (now row) from 1)))) ⌝ }
+        × ((mark % 2 ≡ 0) × ((allFormed (repliesIn (now row)) ≡ true) × (WordsAt mask (now row) from 1))))) ⌝ }
     ensures { λ k. ⌜ (1 ≤ k) × ((k ≤ most) × (WordsAt mask (now (row .entry)) from k
         × (now (incoming .exit) ≡ wordsStored wide (now (row .entry)) from mark k (now (incoming .entry))))) ⌝ }
 {
     if wide {
-        let to = pad(incoming, mark);
+        let to = packing::pad(incoming, mark);
         return read_wide(incoming, to, row, from, most, mask);
     }
     read_narrow(incoming, mark, row, from, most, mask)
 }
 
-// One word read and stored.
-pub fn read_word(wide: bool, incoming: &mut [u8], mark: usize, row: &[u8], k: usize)
+// One word read and stored: the mark behind it.
+pub fn read_word(wide: bool, incoming: &mut [u8], mark: usize, row: &[u8], k: usize) -> usize
     requires { ⌜ (markAfter wide mark ≤ length (now incoming)) × ((k * 8 + 8 ≤ length (now row)) × (allFormed (repliesIn (now row)) ≡ true)) ⌝ }
-    ensures { λ r. ⌜ now (incoming .exit) ≡ stored wide (longwordIn (now (row .entry)) (k * 8)) mark (now (incoming .entry)) ⌝ }
+    ensures { λ r. ⌜ (r ≡ markAfter wide mark)
+        × (now (incoming .exit) ≡ stored wide (longwordIn (now (row .entry)) (k * 8)) mark (now (incoming .entry))) ⌝ }
 {
     if wide {
-        let to = pad(incoming, mark);
+        let to = packing::pad(incoming, mark);
         put_wide(incoming, to, row, k * 8);
+        to + 4
     } else {
         put_narrow(incoming, mark, row, k * 8);
+        mark + 2
     }
 }

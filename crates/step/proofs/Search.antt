@@ -18,12 +18,12 @@ use Rattle.listfile.proofs.Sound.{SoundCommand}
 use Rattle.walk.specs.Walk.{firstSpot, sameSpot, Visit, nextOf, walkFrom, upTo, onFrom, noMarks, marksAfter, marksOver}
 use Rattle.walk.specs.Worst.{worstOf, worstOver}
 use Rattle.walk.specs.Admission.{Plan, countsOf}
-use Rattle.walk.specs.model.Sums.{PlannedRight, Below, turnOf, restFrom, planBy}
+use Rattle.walk.specs.model.Sums.{PlannedRight, SumsTo, turnOf, restFrom, planBy}
 use Rattle.walk.specs.declared.worst.Counts.{Counts}
 use Rattle.walk.specs.declared.visits.Turn.{Turn}
 use Rattle.walk.specs.declared.visits.Turn.the-variants.{To, Stopped}
 use Rattle.walk.proofs.Halting.{Well, well-after}
-use Rattle.walk.proofs.MarksGrow.{BelowMarks, below, over-grows}
+use Rattle.walk.proofs.MarksGrow.{BelowMarks, below, over-grows, EvenMarks, after-even, marks-even}
 use Rattle.walk.proofs.Rest.{OnWalk, on-walk, rest-next, rest-ends}
 use Rattle.walk.proofs.SumLaws.{marksIn, countsBy, turn-went, turn-halts}
 use Rattle.calls.specs.Fit.{fitsAt, fitsFrom, fits}
@@ -129,10 +129,15 @@ module _ (limit : ℕ) (k : Spot) (vs : List Visit) (c : Command) (before : Coun
       (subst Well (split-at k vs ∙ ap (λ (l : List Visit). upTo k vs ++ l) (f .found)) w) .0 in
       rw (f .camac) at h
 
+  before-marks : marksIn before ≡ marksOver (upTo k vs) noMarks
+  before-marks = ap marksIn (f .sums)
+
   pub found-marks : BelowMarks (marksIn before) (marksOver vs noMarks)
   found-marks =
-      let e : marksIn before ≡ marksOver (upTo k vs) noMarks = ap marksIn (f .sums) in
-      subst (λ (m : Marks). BelowMarks m (marksOver vs noMarks)) (sym e) (below vs (upTo k vs) (onFrom k vs) noMarks (split-at k vs))
+      subst (λ (m : Marks). BelowMarks m (marksOver vs noMarks)) (sym before-marks) (below vs (upTo k vs) (onFrom k vs) noMarks (split-at k vs))
+
+  pub found-even : EvenMarks (marksIn before)
+  found-even = subst EvenMarks (sym before-marks) (marks-even (upTo k vs))
 
 -- a record fits the plan where it fits at what is found
 pub find-fits : (p : Plan) (r : Record)
@@ -171,17 +176,20 @@ find-fits p r =
 -- spot j is next, with the sums before it; what is sought is ahead, and all sums come to the walk's
 pub record Finding (list : List ℕ) (n limit : ℕ) (k : Spot) (counts : Counts) (j : Spot) (s : Counts) : Type 0 where
   pub on : OnWalk list n j
+  pub even : EvenMarks (marksIn s)
   pub ahead : findIn limit k (restFrom list n j) s ≡ findIn limit k (restFrom list n firstSpot) noSums
   pub total : countsBy (s .worst + worstOver limit (restFrom list n j)) (marksOver (restFrom list n j) (marksIn s)) ≡ counts
 
 pub finding-below : (list : List ℕ) (n limit : ℕ) (k : Spot) (counts : Counts) (j : Spot) (s : Counts) → Finding list n limit k counts j s
-    → Below (2 ^ 60) counts → Below (2 ^ 62) s
+    → SumsTo (2 ^ 60) counts → SumsTo (2 ^ 62) s
 finding-below list n limit k counts j s f b =
     let m = over-grows (restFrom list n j) (marksIn s) in
     record {
       worst = omega (arith, ap (λ (c : Counts). c .worst) (f .total), b .worst);
       incoming = omega (arith, ap (λ (c : Counts). c .incoming) (f .total), b .incoming, m .incoming);
       outgoing = omega (arith, ap (λ (c : Counts). c .outgoing) (f .total), b .outgoing, m .outgoing);
+      incoming-even = f .even .incoming;
+      outgoing-even = f .even .outgoing;
     }
 
 module _ (list table : List ℕ) (n : ℕ) (j : Spot) (at : ℕ) (i : Instruction) (right : TableRight list table n) (ea : at ≡ getD table (j .instruction) 0)
@@ -215,6 +223,7 @@ module _ (list table : List ℕ) (n : ℕ) (j : Spot) (at : ℕ) (i : Instructio
         let x = rest-next list n j l (f .on) (here .known) (w .next) in (
           record {
             on = x .0;
+            even = subst EvenMarks (ap marksIn (sym (w .sums))) (after-even i (marksIn s) (f .even));
             ahead = rw (x .1, other, e) at (f .ahead);
             total = ap
                 (λ (y : Counts). countsBy (y .worst + worstOver limit (restFrom list n l)) (marksOver (restFrom list n l) (marksIn y))) (w .sums)
@@ -230,6 +239,7 @@ pub finding-start : (list : List ℕ) (s : Sizes) (k : Spot)
 unfolding countsOf
 finding-start list s k w = record {
   on = on-walk list (s .count) firstSpot w;
+  even = record { incoming = refl; outgoing = refl };
   ahead = refl;
   total = ap (λ (x : ℕ). countsBy x (marksOver (restFrom list (s .count) firstSpot) noMarks)) (omega arith);
 }
@@ -261,15 +271,20 @@ module _ (list table : List ℕ) (s : Sizes) (counts : Counts) (x : PlannedFor l
     pub found-bounded : Bounded (s .limit) c (marksIn sums) (counts .worst)
     unfolding countsOf
     found-bounded =
-        let m = found-marks (s .limit) (r .spot) (restFrom list (s .count) firstSpot) c sums after place in (
+        let m = found-marks (s .limit) (r .spot) (restFrom list (s .count) firstSpot) c sums after place in
+        let even = found-even (s .limit) (r .spot) (restFrom list (s .count) firstSpot) c sums after place in (
           x .planned .small,
           (
             found-sound (s .limit) (r .spot) (restFrom list (s .count) firstSpot) c sums after place (plan-sound list plan (x .bytes) (x .plan) .well) .words-most,
-            record {
-              worst = x .planned .below .worst;
-              incoming = omega (arith, m .incoming, ap (λ (y : Counts). y .incoming) (x .planned .sums), x .planned .below .incoming);
-              outgoing = omega (arith, m .outgoing, ap (λ (y : Counts). y .outgoing) (x .planned .sums), x .planned .below .outgoing);
-            },
+            (
+              x .planned .below .worst,
+              record {
+                incoming = omega (arith, m .incoming, ap (λ (y : Counts). y .incoming) (x .planned .sums), x .planned .below .incoming);
+                outgoing = omega (arith, m .outgoing, ap (λ (y : Counts). y .outgoing) (x .planned .sums), x .planned .below .outgoing);
+                incoming-even = even .incoming;
+                outgoing-even = even .outgoing;
+              },
+            ),
           ),
         )
 

@@ -87,7 +87,7 @@ unfolding movedWords moved
 words-even zero c m e = e
 words-even (suc k) c m e = by-even (directionOf (c .transfer)) (c .wide) (movedWords k c m) (words-even k c m e)
 
-after-even : (i : Instruction) (m : Marks) → EvenMarks m → EvenMarks (marksAfter i m)
+pub after-even : (i : Instruction) (m : Marks) → EvenMarks m → EvenMarks (marksAfter i m)
 unfolding marksAfter
 after-even (Camac c) m e = words-even (wordsOf (c .transfer)) c m e
 after-even (Jump target) m e = e

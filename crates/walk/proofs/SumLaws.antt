@@ -1,22 +1,20 @@
 -- The sums of one visit: they are the worst count and the marks of its instruction, because marks go on word by word in both; and they grow
 -- by at most 2^48, so that 4,096 visits stay below 2^60.
-use Prim.Native.Nat.{ℕ, zero, suc, _+_, _*_, _%_, _^_, _≤_, _<_}
+use Prim.Native.Nat.{ℕ, zero, suc, _+_, _%_, _^_, _≤_, _<_}
 use mathlib.Core.Path.{_≡_, refl, sym, ap, _∙_, subst}
 use mathlib.Core.Bool.{Bool, true, false}
 use mathlib.Core.List.{List}
 use mathlib.Core.Option.{some}
 use native.Mathlib.Omega.{arith}
-use lib.Dec.{eqb}
-use Rattle.base.specs.Checks.{if_then_else_}
 use Rattle.camac.specs.Words.{qmodeIn, wideIn, commandIn, qmodeOf, wordsOf, directionOf, positionOf}
 use Rattle.qmodes.specs.declared.modes.QMode.{QMode}
 use Rattle.qmodes.specs.declared.scan.ScanPosition.{ScanPosition}
 use Rattle.camac.specs.declared.words.Command.{Command}
 use Rattle.camac.specs.declared.words.Direction.{Direction}
 use Rattle.camac.specs.declared.words.Direction.the-variants.{Incoming, Outgoing, Neither}
-use Rattle.packing.specs.Packing.{padAt, widthOf, markAfterWords}
+use Rattle.packing.specs.Packing.{padAt, alignedMark, widthOf, markAfterWords}
 use Rattle.packing.specs.declared.Marks.{Marks}
-use Rattle.packing.proofs.MarkFacts.{words-closed}
+use Rattle.packing.proofs.MarkFacts.{words-even, words-closed}
 use Rattle.listfile.specs.Fields.{tagAt, firstAt, secondAt}
 use Rattle.listfile.specs.model.Table.{instructionBy, instructionAt}
 use Rattle.listfile.specs.declared.field.Instruction.{Instruction}
@@ -28,7 +26,7 @@ use Rattle.qmodes.specs.Modes.{worstWords}
 use Rattle.camac.proofs.BitLaws.{command-qmode, command-wide, command-few}
 use Rattle.qmodes.proofs.Most.{worst-small}
 use Rattle.walk.specs.Worst.{worstOf}
-use Rattle.walk.specs.model.Sums.{FewWords, Below, addedBy, afterCommand, turnOf}
+use Rattle.walk.specs.model.Sums.{FewWords, SumsTo, addedBy, afterCommand, turnOf}
 use Rattle.walk.specs.declared.worst.Counts.{Counts}
 use Rattle.walk.specs.declared.visits.Turn.the-variants.{To, Stopped}
 use Rattle.walk.specs.declared.visits.Spot.{Spot}
@@ -127,65 +125,78 @@ turn-halts limit Halt k s e = refl
 
 -- How little the sums grow -----------------------------------------------------------------------------------------------------
 
-pad-small : (wide : Bool) (m : ℕ) → padAt wide m ≤ 2
-unfolding padAt
-pad-small false m = omega arith
-pad-small true m = go (eqb (m % 4) 2)
-  where
-    go : (b : Bool) → (if b then 2 else 0) ≤ 2
-    go true = omega arith
-    go false = omega arith
+mark-small : (wide : Bool) (n m : ℕ) → m % 2 ≡ 0 → n ≤ 2 ^ 32 → markAfterWords wide n m ≤ m + 2 ^ 48
+unfolding markAfterWords alignedMark padAt widthOf
+mark-small wide zero m even h = omega arith
+mark-small true (suc n) m even h = omega (arith, words-closed true (suc n) m even (omega arith))
+mark-small false (suc n) m even h = omega (arith, words-closed false (suc n) m even (omega arith))
 
-mark-small : (wide : Bool) (n m : ℕ) → n ≤ 2 ^ 32 → markAfterWords wide n m ≤ m + 2 ^ 48
-unfolding markAfterWords widthOf
-mark-small wide zero m h = omega arith
-mark-small wide (suc n) m h = rw (words-closed wide n m) (go wide (pad-small wide m))
-  where
-    go : (wide : Bool) → padAt wide m ≤ 2 → m + padAt wide m + suc n * widthOf wide ≤ m + 2 ^ 48
-    go true p = omega arith
-    go false p = omega arith
+pub sums-more : {a b : ℕ} {s : Counts} → a ≤ b → SumsTo a s → SumsTo b s
+sums-more h x = record {
+  worst = omega (arith, x .worst);
+  incoming = omega (arith, x .incoming);
+  outgoing = omega (arith, x .outgoing);
+  incoming-even = x .incoming-even;
+  outgoing-even = x .outgoing-even;
+}
 
-pub below-more : {a b : ℕ} {s : Counts} → a ≤ b → Below a s → Below b s
-below-more h x = record { worst = omega (arith, x .worst); incoming = omega (arith, x .incoming); outgoing = omega (arith, x .outgoing) }
+-- one mark after some words, the other sums as they are
+module _ {b : ℕ} {s : Counts} (wide : Bool) (n : ℕ) (few : n ≤ 2 ^ 32) where
+  incoming-to : s .incoming ≤ b → SumsTo (b + 2 ^ 48) s
+      → SumsTo (b + 2 ^ 48) (record { worst = s .worst; incoming = markAfterWords wide n (s .incoming); outgoing = s .outgoing })
+  incoming-to h x = record {
+    worst = x .worst;
+    incoming = omega (arith, mark-small wide n (s .incoming) (x .incoming-even) few);
+    outgoing = x .outgoing;
+    incoming-even = words-even wide n (s .incoming) (x .incoming-even);
+    outgoing-even = x .outgoing-even;
+  }
 
-command-below : (limit b : ℕ) (c : Command) (s : Counts) → limit < 2 ^ 16 → wordsOf (c .transfer) ≤ 2 ^ 32 → Below b s
-    → Below (b + 2 ^ 48) (afterCommand limit c s)
+  outgoing-to : s .outgoing ≤ b → SumsTo (b + 2 ^ 48) s
+      → SumsTo (b + 2 ^ 48) (record { worst = s .worst; incoming = s .incoming; outgoing = markAfterWords wide n (s .outgoing) })
+  outgoing-to h x = record {
+    worst = x .worst;
+    incoming = x .incoming;
+    outgoing = omega (arith, mark-small wide n (s .outgoing) (x .outgoing-even) few);
+    incoming-even = x .incoming-even;
+    outgoing-even = words-even wide n (s .outgoing) (x .outgoing-even);
+  }
+
+command-sums-to : (limit b : ℕ) (c : Command) (s : Counts) → limit < 2 ^ 16 → wordsOf (c .transfer) ≤ 2 ^ 32 → SumsTo b s
+    → SumsTo (b + 2 ^ 48) (afterCommand limit c s)
 unfolding afterCommand
-command-below limit b c s hl h x = by (directionOf (c .transfer))
+command-sums-to limit b c s hl h x = by (directionOf (c .transfer))
   where
     w : ℕ
     w = worstWords limit (qmodeOf (c .transfer)) (positionOf (c .transfer)) (wordsOf (c .transfer))
 
-    worst : s .worst + w ≤ b + 2 ^ 48
-    worst =
-        omega (arith, x .worst, worst-small limit (qmodeOf (c .transfer)) (positionOf (c .transfer)) (wordsOf (c .transfer)) hl h)
+    with-worst : SumsTo (b + 2 ^ 48) (countsBy (s .worst + w) (marksIn s))
+    with-worst = record {
+      worst = omega (arith, x .worst, worst-small limit (qmodeOf (c .transfer)) (positionOf (c .transfer)) (wordsOf (c .transfer)) hl h);
+      incoming = omega (arith, x .incoming);
+      outgoing = omega (arith, x .outgoing);
+      incoming-even = x .incoming-even;
+      outgoing-even = x .outgoing-even;
+    }
 
-    mark : (m : ℕ) → m ≤ b → markAfterWords (c .wide) (wordsOf (c .transfer)) m ≤ b + 2 ^ 48
-    mark m l = omega (arith, mark-small (c .wide) (wordsOf (c .transfer)) m h)
+    by : (d : Direction) → SumsTo (b + 2 ^ 48) (addedBy d (c .wide) (wordsOf (c .transfer)) (s .worst + w) s)
+    by Incoming = incoming-to (c .wide) (wordsOf (c .transfer)) h (x .incoming) with-worst
+    by Outgoing = outgoing-to (c .wide) (wordsOf (c .transfer)) h (x .outgoing) with-worst
+    by Neither = with-worst
 
-    by : (d : Direction) → Below (b + 2 ^ 48) (addedBy d (c .wide) (wordsOf (c .transfer)) (s .worst + w) s)
-    by Incoming = record { worst = worst; incoming = mark (s .incoming) (x .incoming); outgoing = omega (arith, x .outgoing) }
-    by Outgoing = record { worst = worst; incoming = omega (arith, x .incoming); outgoing = mark (s .outgoing) (x .outgoing) }
-    by Neither = record { worst = worst; incoming = omega (arith, x .incoming); outgoing = omega (arith, x .outgoing) }
-
-pub turn-below : (limit b : ℕ) (i : Instruction) (k : Spot) (s : Counts) (j : Spot) (s′ : Counts) → limit < 2 ^ 16 → FewWords i → Below b s
-    → turnOf limit i k s ≡ To j s′ → Below (b + 2 ^ 48) s′
+pub turn-sums-to : (limit b : ℕ) (i : Instruction) (k : Spot) (s : Counts) (j : Spot) (s′ : Counts) → limit < 2 ^ 16 → FewWords i → SumsTo b s
+    → turnOf limit i k s ≡ To j s′ → SumsTo (b + 2 ^ 48) s′
 unfolding turnOf
-turn-below limit b i k s j s′ hl h x e = go i h e
+turn-sums-to limit b i k s j s′ hl h x e = go i h e
   where
-    to : (y : Counts) → y ≡ s′ → Below (b + 2 ^ 48) y → Below (b + 2 ^ 48) s′
-    to y q g = subst (Below (b + 2 ^ 48)) q g
+    to : (y : Counts) → y ≡ s′ → SumsTo (b + 2 ^ 48) y → SumsTo (b + 2 ^ 48) s′
+    to y q g = subst (SumsTo (b + 2 ^ 48)) q g
 
-    go : (i : Instruction) → FewWords i → turnOf limit i k s ≡ To j s′ → Below (b + 2 ^ 48) s′
-    go (Camac c) h e = to (afterCommand limit c s) (cc) (command-below limit b c s hl h x)
-    go (Jump target) h e = to s (cc) (below-more (omega arith) x)
+    go : (i : Instruction) → FewWords i → turnOf limit i k s ≡ To j s′ → SumsTo (b + 2 ^ 48) s′
+    go (Camac c) h e = to (afterCommand limit c s) (cc) (command-sums-to limit b c s hl h x)
+    go (Jump target) h e = to s (cc) (sums-more (omega arith) x)
     go (Literal v) h e =
-        to (afterLiteral s) (cc)
-        (record {
-          worst = omega (arith, x .worst);
-          incoming = omega (arith, x .incoming, mark-small true 1 (s .incoming) (omega arith));
-          outgoing = omega (arith, x .outgoing);
-        })
+        to (afterLiteral s) (cc) (incoming-to true 1 (omega arith) (x .incoming) (sums-more (omega arith) x))
     go Halt h e = let z : _≡_ {A = ℕ} 0 1 = cc in absurd (omega arith)
 
 -- Words of an instruction as it lies in the list ---------------------------------------------------------------------------------

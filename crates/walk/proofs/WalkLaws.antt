@@ -13,7 +13,7 @@ use Rattle.listfile.specs.declared.check.Sizes.{Sizes}
 use Rattle.walk.specs.Walk.{firstSpot, Visit, visit, fieldAt, nextOf, before, walkFrom, marksAfter, marksOver}
 use Rattle.walk.specs.Worst.{worstOf, worstOver}
 use Rattle.walk.specs.Admission.{countsOf}
-use Rattle.walk.specs.model.Sums.{Below, turnOf, restFrom, WalkBy}
+use Rattle.walk.specs.model.Sums.{SumsTo, turnOf, restFrom, WalkBy}
 use Rattle.walk.specs.declared.worst.Counts.{Counts}
 use Rattle.walk.specs.declared.visits.Turn.the-variants.{To, Stopped}
 use Rattle.walk.specs.declared.visits.Walked.{Walked}
@@ -84,7 +84,7 @@ walk-lost list s e = go (walkFrom (s .count) (firstFields list (s .count)) first
 
 pub walk-halted : (list : List ℕ) (s : Sizes) (sums : Counts)
     → ahead (s .limit) (walkFrom (s .count) (firstFields list (s .count)) firstSpot) noCounts ≡ Halted sums
-    → Below (2 ^ 60) sums → WalkBy list s (Halted sums)
+    → SumsTo (2 ^ 60) sums → WalkBy list s (Halted sums)
 unfolding restFrom countsOf
 walk-halted list s sums e b = go (walkFrom (s .count) (firstFields list (s .count)) firstSpot) refl e
   where

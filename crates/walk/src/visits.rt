@@ -10,7 +10,7 @@ ghost use Prim.Native.Nat.{_^_, _<_, _≤_};
 ghost use lib.ListN.{length};
 ghost use Rattle.listfile.specs.model.Table.{instructionAt, FieldPassed, TableRight};
 ghost use Rattle.walk.specs.Walk.{firstSpot, spotAfter, jumpTo, sameSpot};
-ghost use Rattle.walk.specs.model.Sums.{FewWords, Below, turnOf, WalkBy};
+ghost use Rattle.walk.specs.model.Sums.{FewWords, SumsTo, turnOf, WalkBy};
 
 // Where a walk stands: at an instruction, by its number.
 pub struct Spot {
@@ -61,7 +61,7 @@ pub fn is_same_spot(s: Spot, t: Spot) -> bool
 
 // One visit; the search for an instruction of the walk makes it too.
 pub fn turn_of(i: Instruction, at: Spot, limit: u64, s: Counts) -> Turn
-    requires { ⌜ (limit < 2 ^ 16) × (FewWords i × ((at .instruction < 2 ^ 16) × Below (2 ^ 62) s)) ⌝ }
+    requires { ⌜ (limit < 2 ^ 16) × (FewWords i × ((at .instruction < 2 ^ 16) × SumsTo (2 ^ 62) s)) ⌝ }
     ensures { λ r. ⌜ r ≡ turnOf limit i at s ⌝ }
 {
     match i {
@@ -81,7 +81,7 @@ pub fn turn_of(i: Instruction, at: Spot, limit: u64, s: Counts) -> Turn
 
 // The same at an admitted field, of which it reads what it needs.
 pub fn turn_at(list: &[u8], place: u16, here: Spot, limit: u64, s: Counts) -> Turn
-    requires { ⌜ (limit < 2 ^ 16) × (FieldPassed (now list) place × ((here .instruction < 2 ^ 16) × Below (2 ^ 62) s)) ⌝ }
+    requires { ⌜ (limit < 2 ^ 16) × (FieldPassed (now list) place × ((here .instruction < 2 ^ 16) × SumsTo (2 ^ 62) s)) ⌝ }
     ensures { λ r. ⌜ r ≡ turnOf limit (instructionAt (now (list .entry)) place) here s ⌝ }
 {
     let at = place as usize;

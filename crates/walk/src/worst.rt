@@ -7,7 +7,7 @@ ghost use Rattle.camac.specs.Words.{commandIn, wordsOf};
 ghost use Rattle.listfile.specs.Fields.{tagAt, firstAt, secondAt};
 ghost use Rattle.listfile.specs.model.Table.{FieldPassed};
 ghost use Rattle.listfile.specs.declared.field.Tag.the-variants.{CamacTag};
-ghost use Rattle.walk.specs.model.Sums.{Below, afterCommand};
+ghost use Rattle.walk.specs.model.Sums.{SumsTo, afterCommand};
 
 // W, B and O: the worst count, and the incoming and the outgoing mark after every word of the walk.
 pub struct Counts {
@@ -18,7 +18,7 @@ pub struct Counts {
 
 // The sums after a CAMAC instruction with all its words.
 pub(crate) fn after_command(limit: u64, c: Command, s: Counts) -> Counts
-    requires { ⌜ (limit < 2 ^ 16) × ((wordsOf (c .transfer) ≤ 2 ^ 32) × Below (2 ^ 62) s) ⌝ }
+    requires { ⌜ (limit < 2 ^ 16) × ((wordsOf (c .transfer) ≤ 2 ^ 32) × SumsTo (2 ^ 62) s) ⌝ }
     ensures { λ r. ⌜ r ≡ afterCommand limit c s ⌝ }
 {
     let t = c.transfer;
@@ -48,7 +48,7 @@ pub(crate) fn after_command(limit: u64, c: Command, s: Counts) -> Counts
 
 // The same for the CAMAC field at a place, by the bits of its longwords.
 pub(crate) fn after_field(limit: u64, list: &[u8], at: usize, s: Counts) -> Counts
-    requires { ⌜ (limit < 2 ^ 16) × (FieldPassed (now list) at × ((tagAt (now list) at ≡ CamacTag) × Below (2 ^ 62) s)) ⌝ }
+    requires { ⌜ (limit < 2 ^ 16) × (FieldPassed (now list) at × ((tagAt (now list) at ≡ CamacTag) × SumsTo (2 ^ 62) s)) ⌝ }
     ensures { λ r. ⌜ r ≡ afterCommand limit (commandIn (firstAt (now (list .entry)) at) (secondAt (now (list .entry)) at)) s ⌝ }
 {
     let first = listfile::first_at(list, at);

@@ -309,6 +309,8 @@ module _ {z : Run} {answers : ℕ} (g : Admitted z) (answered : Answered (z .row
           incoming = omega (arith, n .room, ap (λ (y : Marks). y .incoming) m);
           small = omega (arith, n .incoming-behind, ap (λ (y : Marks). y .incoming) m);
           outgoing = omega (arith, n .outgoing-behind, ap (λ (y : Marks). y .outgoing) m);
+          incoming-even = n .even .incoming;
+          outgoing-even = n .even .outgoing;
         })
 
     -- its answers passed: each word left takes one at least

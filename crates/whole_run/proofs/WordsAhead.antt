@@ -18,7 +18,7 @@ use Rattle.walk.specs.Admission.{Plan, countsOf}
 use Rattle.walk.specs.model.Sums.{planBy}
 use Rattle.walk.specs.declared.worst.Counts.{Counts}
 use Rattle.walk.proofs.Halting.{Well, well-after}
-use Rattle.walk.proofs.MarksGrow.{BelowMarks, moved-grows, over-snoc, below}
+use Rattle.walk.proofs.MarksGrow.{BelowMarks, EvenMarks, moved-grows, over-snoc, below}
 use Rattle.reply.specs.declared.records.Record.{Record}
 use Rattle.worst_count.proofs.Live.{Live, camacVisit, waits-once, fits-live, live-waits}
 use Rattle.worst_count.proofs.RunOn.{lastMarks}
@@ -37,6 +37,7 @@ pub record Numbers (c : Command) (r : Record) (b : List ℕ) : Type 0 where
   pub room : movedWords (r .left) c (r .marks) .incoming ≤ length b
   pub incoming-behind : movedWords (r .left) c (r .marks) .incoming ≤ 2 ^ 60
   pub outgoing-behind : movedWords (r .left) c (r .marks) .outgoing ≤ 2 ^ 60
+  pub even : EvenMarks (r .marks)
 
 words-add : (j k : ℕ) (c : Command) (m : Marks) → movedWords k c (movedWords j c m) ≡ movedWords (j + k) c m
 unfolding movedWords
@@ -84,6 +85,7 @@ module _ (list table : List ℕ) (s : Sizes) (room : ℕ) (g : Grounds list tabl
     room = omega (arith, words .incoming, prepared-room list room (g .outgoing) (planBy list s) (g .prepared .prepared) .incoming-room, e);
     incoming-behind = omega (arith, words .incoming, small .0);
     outgoing-behind = omega (arith, words .outgoing, small .1);
+    even = n .even;
   }
     where
       n : FitNumbers (planBy list s) r c

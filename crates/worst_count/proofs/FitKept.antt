@@ -14,7 +14,7 @@ use Rattle.camac.specs.declared.words.Command.{Command}
 use Rattle.walk.specs.Walk.{Visit, moved}
 use Rattle.walk.specs.Worst.{worstOver}
 use Rattle.walk.specs.Admission.{Plan, ready, prepare}
-use Rattle.walk.proofs.MarksGrow.{BelowMarks}
+use Rattle.walk.proofs.MarksGrow.{BelowMarks, EvenMarks}
 use Rattle.reply.specs.Replies.{replyOf}
 use Rattle.reply.specs.Status.{waitingBits}
 use Rattle.reply.specs.Effect.{State}
@@ -25,7 +25,7 @@ use Rattle.reply.specs.declared.replies.Reply.{Reply}
 use Rattle.qmodes.proofs.MostFalls.{TriesOk, PositionOk}
 use Rattle.worst_count.specs.WorstCount.{WaitsAt}
 use Rattle.worst_count.proofs.StatusBits.{only-le}
-use Rattle.worst_count.proofs.Live.{near-le, Live, waits-once, fits-live, live-waits, live-fits}
+use Rattle.worst_count.proofs.Live.{near-le, Live, live-even, waits-once, fits-live, live-waits, live-fits}
 use Rattle.worst_count.proofs.RunOn.{lastMarks, Over, Reached}
 use Rattle.worst_count.proofs.Move.{next-below, live-some}
 use Rattle.worst_count.proofs.Take.{takes}
@@ -120,6 +120,7 @@ pub record FitNumbers (p : Plan) (r : Record) (c : Command) : Type 0 where
   pub status-most : r .status ≤ waitingBits
   -- the marks after the next word
   pub next-marks : BelowMarks (moved c (r .marks)) (lastMarks p)
+  pub even : EvenMarks (r .marks)
 
 tries-below : (limit : ℕ) (q : QMode) (tries : ℕ) → 1 ≤ limit → TriesOk limit q tries → tries < limit
 tries-below limit Stop tries h e = omega arith
@@ -138,6 +139,7 @@ live-numbers slow p r sound l = record {
   operations-most = omega (arith, near-le slow _ _ (l .bound), live-some slow p r l);
   status-most = only-le waitingBits (r .status) (l .status);
   next-marks = next-below slow p r l;
+  even = live-even slow p r l;
 }
 
 pub fits-numbers : (p : Plan) → SoundPlan p → (r : Record) → fits p r ≡ true → {c : Command} {rest : List Visit} → WaitsAt p r c rest

@@ -33,7 +33,7 @@ use Rattle.worst_count.specs.WorstCount.{WaitsAt}
 use Rattle.worst_count.proofs.StatusBits.{Only}
 use Rattle.walk.specs.declared.visits.Spot.{Spot}
 use Rattle.walk.proofs.Spots.{split-at, on-from-spot}
-use Rattle.walk.proofs.MarksGrow.{BelowMarks}
+use Rattle.walk.proofs.MarksGrow.{BelowMarks, EvenMarks, words-even, marks-even}
 use Rattle.walk.specs.Walk.{movedBy}
 use Rattle.camac.specs.declared.words.Direction.{Direction}
 
@@ -66,6 +66,10 @@ marks-ok-same false m m′ m″ h e = h ∙ e
 pub marks-ok-below : (slow : Bool) (m m′ : Marks) → MarksOk slow m m′ → BelowMarks m m′
 marks-ok-below true m m′ h = marks-same-below h
 marks-ok-below false m m′ h = marks-same-below h
+
+marks-ok-even : (slow : Bool) (m m′ : Marks) → MarksOk slow m m′ → EvenMarks m′ → EvenMarks m
+marks-ok-even true m m′ h e = subst EvenMarks (sym h) e
+marks-ok-even false m m′ h e = subst EvenMarks (sym h) e
 
 pub marks-ok-by : (slow : Bool) (d : Direction) (wide : Bool) (m m′ : Marks) → MarksOk slow m m′ → MarksOk slow (movedBy d wide m) (movedBy d wide m′)
 marks-ok-by true d wide m m′ h = ap (movedBy d wide) h
@@ -101,6 +105,12 @@ live-halts slow p r l h = halts-after (l .pre) (camacVisit (r .spot) (l .place) 
 
 pub live-well : (slow : Bool) (p : Plan) (r : Record) (l : Live slow p r) → Well (p .visits) → Well (l .post)
 live-well slow p r l h = well-after (l .pre) (camacVisit (r .spot) (l .place) (l .command)) (l .post) (subst Well (l .split) h) .1
+
+-- its marks are even, as those of the walk are
+pub live-even : (slow : Bool) (p : Plan) (r : Record) → Live slow p r → EvenMarks (r .marks)
+live-even slow p r l =
+    marks-ok-even slow (r .marks) _ (l .marks)
+    (words-even (wordsOf (l .command .transfer) - r .left) (l .command) (marksOver (l .pre) noMarks) (marks-even (l .pre)))
 
 -- a record waits at one operation
 pub waits-once : {p : Plan} {r : Record} {c c′ : Command} {rest rest′ : List Visit} → WaitsAt p r c rest → WaitsAt p r c′ rest′

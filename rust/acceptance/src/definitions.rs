@@ -204,7 +204,10 @@ mod tests {
             law("reply", "Fits")
         );
         assert_eq!(cited("use Rattle.calls.specs.Fit.{fits}"), None);
-        assert_eq!(cited("use Rattle.worst_count.specs.Slowest.{misses}"), None);
+        assert_eq!(
+            cited("use Rattle.worst_count.specs.Slowest.{misses}"),
+            None
+        );
         assert_eq!(cited("use mathlib.Core.List.{List}"), None);
     }
 

@@ -80,27 +80,35 @@ pub struct Workload {
 
 /// The lists for whole runs.
 pub fn workloads() -> Vec<Workload> {
+    let lists = [blocks_of_one_size(), singles(), mixed()];
+    lists.into_iter().flatten().collect()
+}
+
+const PLAIN: &[Answers] = &[Answers::Clean, Answers::Flagged];
+
+fn single(bits: u32) -> DraftField {
+    DraftField::camac(PLACE | STOP | bits, None)
+}
+
+fn block(bits: u32, words: u32) -> DraftField {
+    let size = if bits & BITS_16 == 0 { 2 } else { 1 };
+    DraftField::camac(PLACE | BLOCK | bits, Some((words * size).wrapping_neg()))
+}
+
+fn blocks_of_one_size() -> Vec<Workload> {
     use Answers::*;
-    let block = |bits, words: u32| {
-        let size = if bits & BITS_16 == 0 { 2 } else { 1 };
-        DraftField::camac(PLACE | BLOCK | bits, Some((words * size).wrapping_neg()))
-    };
     let short = |bits| vec![block(bits | BITS_16, 65_536)];
     let wide = |bits| vec![block(bits, 32_768); 2];
-    let mixed = [block(IGNORE | READ | BITS_16, 3), block(IGNORE | READ, 1)];
-    let singles = |bits| vec![DraftField::camac(PLACE | STOP | BITS_16 | bits, None); 4_095];
-    let inline = DraftField::camac(PLACE | STOP | BITS_16 | INLINE | WRITE, Some(7));
     // From N 1, A 0: even a scan that skips to station 23 has room for its 16 words.
     let scan_first = 1 << 25 | 3 << 8 | 1 | BLOCK | SCAN | READ;
     let scan = DraftField::camac(scan_first, Some(32_u32.wrapping_neg()));
-    let plain: &[Answers] = &[Clean, Flagged];
     let drawn: &[Answers] = &[Clean, Flagged, Other];
     vec![
         workload("16-bit read, ignore", short(IGNORE | READ), drawn),
-        workload("16-bit read, stop", short(STOP | READ), plain),
+        workload("16-bit read, stop", short(STOP | READ), PLAIN),
         workload("24-bit read, ignore", wide(IGNORE | READ), drawn),
         workload("16-bit write, ignore", short(IGNORE | WRITE), drawn),
-        workload("24-bit write, ignore", wide(IGNORE | WRITE), plain),
+        workload("24-bit write, ignore", wide(IGNORE | WRITE), PLAIN),
         workload(
             "16-bit repeat",
             short(REPEAT | READ),
@@ -111,12 +119,54 @@ pub fn workloads() -> Vec<Workload> {
             vec![scan; 2_000],
             &[Clean, Flagged, Skips],
         ),
-        workload("3 x 16, 1 x 24 in turn", vec![mixed; 2_047].concat(), plain),
-        workload("16-bit single reads", singles(READ), plain),
-        workload("16-bit single writes", singles(WRITE), plain),
-        workload("controls", singles(CONTROL), plain),
-        workload("inline writes", vec![inline; 4_095], plain),
     ]
+}
+
+fn singles() -> Vec<Workload> {
+    let singles = |bits| vec![single(BITS_16 | bits); 4_095];
+    let inline = DraftField::camac(PLACE | STOP | BITS_16 | INLINE | WRITE, Some(7));
+    vec![
+        workload("16-bit single reads", singles(READ), PLAIN),
+        workload("16-bit single writes", singles(WRITE), PLAIN),
+        workload("controls", singles(CONTROL), PLAIN),
+        workload("inline writes", vec![inline; 4_095], PLAIN),
+    ]
+}
+
+/// Reads of 16 and 24 bits in one list. In turn, each 24-bit single or block has a pad; at
+/// random, some have one.
+fn mixed() -> Vec<Workload> {
+    let blocks = [block(IGNORE | READ | BITS_16, 3), block(IGNORE | READ, 1)];
+    let pair = [single(READ | BITS_16), single(READ)];
+    vec![
+        workload(
+            "3 x 16, 1 x 24 in turn",
+            vec![blocks; 2_047].concat(),
+            PLAIN,
+        ),
+        workload("mixed singles in turn", vec![pair; 2_047].concat(), PLAIN),
+        workload("mixed singles, random", random_singles(), PLAIN),
+        workload("mixed blocks, random", random_blocks(), PLAIN),
+    ]
+}
+
+fn random_singles() -> Vec<DraftField> {
+    let mut rng = Rng::new(4);
+    let singles = (0..4_095).map(|_| single(READ | rng.pick(&[0, BITS_16])));
+    singles.collect()
+}
+
+/// Blocks of three or four 16-bit words and of two 24-bit words, in turn.
+fn random_blocks() -> Vec<DraftField> {
+    let mut rng = Rng::new(5);
+    let pairs = (0..2_047).flat_map(|_| {
+        let words = rng.pick(&[3, 4]);
+        [
+            block(IGNORE | READ | BITS_16, words),
+            block(IGNORE | READ, 2),
+        ]
+    });
+    pairs.collect()
 }
 
 fn workload(
@@ -171,16 +221,19 @@ pub fn admissions() -> Vec<(&'static str, Vec<u8>)> {
         fields.push(DraftField::halt());
         Draft::new(3, fields).bytes()
     };
-    let single = DraftField::camac(PLACE | READ | BITS_16, None);
-    let block = DraftField::camac(PLACE | BLOCK | READ | BITS_16, Some(0xFFFF_0000));
+    let one_block = block(STOP | READ | BITS_16, 65_536);
     vec![
-        ("4,095 singles, halt", list(vec![single; 4_095])),
+        (
+            "4,095 singles, halt",
+            list(vec![single(READ | BITS_16); 4_095]),
+        ),
+        ("4,095 mixed, halt", list(random_singles())),
         (
             "4,095 literals, halt",
             list(vec![DraftField::literal(7); 4_095]),
         ),
         ("4,095 jumps, halt", Draft::new(3, shuffled_jumps()).bytes()),
-        ("one block, halt", list(vec![block])),
+        ("one block, halt", list(vec![one_block])),
     ]
 }
 
@@ -210,8 +263,7 @@ pub struct Halfway {
 
 impl Halfway {
     pub fn of(instructions: usize) -> Halfway {
-        let single = DraftField::camac(PLACE | READ | BITS_16, None);
-        let mut fields = vec![single; instructions - 1];
+        let mut fields = vec![single(READ | BITS_16); instructions - 1];
         fields.push(DraftField::halt());
         let list = Draft::new(3, fields).bytes();
         let mut incoming = vec![0; 2 * (instructions - 1)];

@@ -1,43 +1,17 @@
 //! The header's functions that write lists and replies, beside this crate's: parts in range
 //! and too wide, with room and without.
 
+#[path = "common/program.rs"]
+mod program;
+
 use camlist::{Camac, List, Reply};
+use program::program;
 use reference::cases::rng::Rng;
-use std::env;
 use std::io::Write;
-use std::path::{Path, PathBuf};
 use std::process::{Command, Stdio};
 
 const SCRIPTS: u64 = 3_000;
 const SEED: u64 = 50;
-
-/// Builds the C program of this test.
-fn program() -> PathBuf {
-    let tests = Path::new(env!("CARGO_MANIFEST_DIR")).join("tests/c");
-    let repository = Path::new(env!("CARGO_MANIFEST_DIR")).join("../..");
-    let program = Path::new(env!("CARGO_TARGET_TMPDIR")).join("builders");
-    let compiler = env::var("CC").unwrap_or(String::from("cc"));
-    let built = Command::new(compiler)
-        .args([
-            "-std=c99",
-            "-O1",
-            "-Wall",
-            "-Wextra",
-            "-Wpedantic",
-            "-Werror",
-        ])
-        .arg("-I")
-        .arg(repository.join("include"))
-        .arg(tests.join("builders.c"))
-        .arg(repository.join("target/staticlib/libhost.a"))
-        .arg("-o")
-        .arg(&program)
-        .output()
-        .expect("a C compiler");
-    let said = String::from_utf8_lossy(&built.stderr);
-    assert!(built.status.success(), "{said}");
-    program
-}
 
 /// One call: its name, its numbers, and the bytes that it puts if they are in range.
 struct Call {
@@ -202,7 +176,7 @@ fn lists_and_replies() {
     let mut rng = Rng::new(SEED);
     let scripts = (0..SCRIPTS).map(|_| script(&mut rng));
     let (lines, expected): (String, String) = scripts.unzip();
-    let mut running = Command::new(program())
+    let mut running = Command::new(program("builders", &[]))
         .stdin(Stdio::piped())
         .stdout(Stdio::piped())
         .spawn()

@@ -1,4 +1,4 @@
-//! Document 01's cases and the manual's examples, through the C interface.
+//! The cases of documents 01 and 02 and the manual's examples, through the C interface.
 
 use camlist::ffi::{admit, run};
 use reference::cases::paper;
@@ -6,6 +6,13 @@ use reference::cases::paper;
 #[test]
 fn document_01() {
     for known in paper::document_01() {
+        known.check(admit, run);
+    }
+}
+
+#[test]
+fn document_02() {
+    for known in paper::document_02() {
         known.check(admit, run);
     }
 }

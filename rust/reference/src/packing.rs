@@ -6,7 +6,8 @@
 pub const LITERAL_BYTES: u64 = 4;
 
 /// Where a word of `length` bytes starts if the mark is `mark`: "If the mark modulo 4
-/// is 2, two zero bytes come first", said of 24-bit words and literals.
+/// is 2, two zero bytes come first", said of 24-bit words and literals. Document 02's E3
+/// has the proved engine add the remainder instead; the test stays here, beside it.
 pub fn offset(mark: u64, length: u64) -> u64 {
     if length == 4 && mark % 4 == 2 {
         mark + 2

@@ -108,3 +108,13 @@ fn marks_after_many_words_are_those_of_one_by_one() {
         }
     }
 }
+
+/// E3: the sum is "the least multiple of 4 not below an even mark", and what the test gives.
+#[test]
+fn the_sum_is_the_test_for_even_marks() {
+    for mark in (0..=4_096).step_by(2) {
+        let sum = mark + mark % 4;
+        assert_eq!(sum, offset(mark, 4));
+        assert_eq!(sum, mark.next_multiple_of(4));
+    }
+}

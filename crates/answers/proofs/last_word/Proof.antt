@@ -1,5 +1,5 @@
--- `last_word` stores the word of a read; a write and a control store nothing.
-use Rattle.answers.proofs.VisitRoom.{read-one, words-left, bytes-one, bytes-by}
+-- `last_word` stores the word of a read, and the mark of its direction is behind it; a write and a control store nothing.
+use Rattle.answers.proofs.VisitRoom.{marks-to, read-one, words-left, read-mark, written-mark, bytes-one, bytes-by}
 use native.Mathlib.Omega.{arith}
 use mathlib.Core.Path.{refl}
 use borrow.Author.Needs.{needs}
@@ -18,6 +18,10 @@ read-word-requires c κs = let p = c .before .before .before .before .before .be
 enum-told-2 : tie.Need-enum-told-2
 enum-told-2 c = search needs
 
+mark-behind-requires : tie.Need-mark-behind-requires
+mark-behind-requires c κs =
+    let m = marks-to _ _ _ _ _ (c .before .before .before .before .before .pre .0) in (omega arith, (m .outgoing, m .outgoing-even))
+
 enum-told-3 : tie.Need-enum-told-3
 enum-told-3 c = search needs
 
@@ -25,13 +29,16 @@ same-length : tie.Need-same-length
 same-length c = search needs
 
 returns : tie.Need-returns
-returns c = bytes-one _ _ _ _ _ (c .before .before .before .before .enum-told .given .1) (c .before .before .read-word .ensures)
+returns c =
+    let e = c .before .before .before .before .enum-told .given .1 in
+    let w = c .before .before .read-word .ensures in (read-mark _ _ _ _ e (w .0), bytes-one _ _ _ _ _ e (w .1))
 
 returns-2 : tie.Need-returns-2
-returns-2 c = bytes-by _ _ _ _ 1 _ _ (c .enum-told2 .given .1) refl
+returns-2 c =
+    let e = c .before .enum-told2 .given .1 in (written-mark _ _ _ _ e (c .mark-behind .ensures), bytes-by _ _ _ _ 1 _ _ e refl)
 
 returns-3 : tie.Need-returns-3
-returns-3 c = bytes-by _ _ _ _ 1 _ _ (c .enum-told3 .given .1) refl
+returns-3 c = let e = c .enum-told3 .given .1 in (rw e, bytes-by _ _ _ _ 1 _ _ e refl)
 
 pub last-word-spec : {M : Type 1} → statement M
 last-word-spec =
@@ -40,6 +47,7 @@ last-word-spec =
     enum-told
     read-word-requires
     enum-told-2
+    mark-behind-requires
     enum-told-3
     same-length
     returns

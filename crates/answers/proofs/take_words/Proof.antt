@@ -9,7 +9,7 @@ use borrow.Author.Needs.{needs}
 use Rattle.row.specs.model.Words.{flagsAt}
 use Rattle.row.proofs.WordLaws.{first-word}
 use Rattle.answers.specs.model.Visit.{Words}
-use Rattle.answers.proofs.VisitRoom.{ahead-most, read-in, bytes-by, some-words, words-room}
+use Rattle.answers.proofs.VisitRoom.{ahead-most, read-in, bytes-by, some-words, words-with, marks-to}
 use Rattle.answers.proofs.take_words.Statement.{statement}
 use Rattle.answers.proofs.take_words.Tie as tie
 
@@ -45,14 +45,14 @@ read-words-requires c κs =
       p .2 .0,
       (
         omega (arith, p .2 .1 .1, p .0 .within),
-        (read-in _ _ _ _ _ (p .0) _ (omega (arith, p .2 .1 .0, ahead-most (start .args .rules .q) (start .args .here .position) (start .args .here .left))) (c .before .enum-told .given .1), (p .0 .row-formed, p .1 .are)),
+        (read-in _ _ _ _ _ (p .0) _ (omega (arith, p .2 .1 .0, ahead-most (start .args .rules .q) (start .args .here .position) (start .args .here .left))) (c .before .enum-told .given .1), (p .0 .incoming-even, (p .0 .row-formed, p .1 .are))),
       ),
     )
 
 after-words-requires : tie.Need-after-words-requires
 after-words-requires c κs =
     let p = c .before .before .before .before .before .before .before .before .before .pre in
-    words-room _ _ _ _ _ (p .0) _ (read (c .before .before)) (omega (arith, p .0 .taken))
+    words-with _ _ _ _ _ (p .0) _ (read (c .before .before)) (omega (arith, p .0 .taken)) (marks-to _ _ _ _ _ (p .0))
 
 enum-told-2 : tie.Need-enum-told-2
 enum-told-2 c = search needs
@@ -62,7 +62,7 @@ pass-words-requires c κs = search needs
 
 after-words-requires-2 : tie.Need-after-words-requires-2
 after-words-requires-2 c κs =
-    let p = c .before .before .before .before .before .before .pre in words-room _ _ _ _ _ (p .0) _ (written c) (omega (arith, p .0 .taken))
+    let p = c .before .before .before .before .before .before .pre in words-with _ _ _ _ _ (p .0) _ (written c) (omega (arith, p .0 .taken)) (marks-to _ _ _ _ _ (p .0))
 
 enum-told-3 : tie.Need-enum-told-3
 enum-told-3 c = search needs
@@ -72,7 +72,7 @@ pass-words-requires-2 c κs = search needs
 
 after-words-requires-3 : tie.Need-after-words-requires-3
 after-words-requires-3 c κs =
-    let p = c .before .before .before .before .before .before .pre in words-room _ _ _ _ _ (p .0) _ (passed c) (omega (arith, p .0 .taken))
+    let p = c .before .before .before .before .before .before .pre in words-with _ _ _ _ _ (p .0) _ (passed c) (omega (arith, p .0 .taken)) (marks-to _ _ _ _ _ (p .0))
 
 same-length : tie.Need-same-length
 same-length c = search needs

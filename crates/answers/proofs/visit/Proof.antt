@@ -4,7 +4,7 @@ use native.Mathlib.Omega.{arith}
 use borrow.Author.Needs.{needs}
 use Rattle.answers.specs.model.Visit.{rulesIn, Words, none, Roomy}
 use Rattle.answers.specs.declared.Rules.{Rules}
-use Rattle.answers.proofs.VisitRoom.{passed-as, words-room, words-turn}
+use Rattle.answers.proofs.VisitRoom.{passed-as, words-with, words-turn}
 use Rattle.answers.proofs.visit.Statement.{statement}
 use Rattle.answers.proofs.visit.Tie as tie
 
@@ -31,11 +31,12 @@ last-word-requires c κs =
     let e = c .before .rules-in .ensures in
     (roomy (c .before .before .before .before .before .before) _ e, last (c .before .before) _ e)
 
-after-words-requires : tie.Need-after-words-requires
-after-words-requires c κs =
+behind-words-requires : tie.Need-behind-words-requires
+behind-words-requires c κs =
     let s = c .before .before .before .before .before .before .before .before .before in
     let e = c .before .before .before .before .rules-in .ensures in
-    words-room _ _ _ _ _ (roomy s _ e) _ (last (c .before .before .before .before .before) _ e) (omega (arith, s .pre .1 .1 .taken))
+    words-with _ _ _ _ _ (roomy s _ e) _ (last (c .before .before .before .before .before) _ e) (omega (arith, s .pre .1 .1 .taken))
+    (c .before .before .last-word .ensures .0)
 
 same-length : tie.Need-same-length
 same-length c = search needs
@@ -46,7 +47,7 @@ returns c =
     let e = c .before .before .before .before .before .rules-in .ensures in
     passed-as e
     (words-turn _ _ _ _ _ _ _ _ none (roomy s _ e) refl 1 (last (c .before .before .before .before .before .before) _ e) _
-    (c .after-words .ensures) _ (c .before .before .before .last-word .ensures) .0)
+    (c .behind-words .ensures) _ (c .before .before .before .last-word .ensures .1) .0)
 
 rules-in-requires-2 : tie.Need-rules-in-requires-2
 rules-in-requires-2 c κs = search needs
@@ -68,7 +69,7 @@ visit-spec =
     is-last-requires
     rules-in-requires
     last-word-requires
-    after-words-requires
+    behind-words-requires
     same-length
     returns
     rules-in-requires-2

@@ -148,7 +148,7 @@ pub data Passed (rules : Rules) (limit : ℕ) (row : List ℕ) (answers : ℕ) (
 
 -- Arithmetic -------------------------------------------------------------------------------------------------------------
 
--- what a stay and its incoming buffer have: the numbers are an admitted list's, and the words left have room
+-- what a stay and its incoming buffer have: the numbers are an admitted list's, the marks are even, and the words left have room
 pub record Roomy (rules : Rules) (row : List ℕ) (answers : ℕ) (s : Stay) (b : List ℕ) : Type 0 where
   pub row-formed : allFormed (repliesIn row) ≡ true
   pub within : answers * 8 ≤ length row
@@ -160,3 +160,5 @@ pub record Roomy (rules : Rules) (row : List ℕ) (answers : ℕ) (s : Stay) (b 
   pub incoming : marksBehind (rules .direction) (rules .wide) (s .left) (s .marks) .incoming ≤ length b
   pub small : marksBehind (rules .direction) (rules .wide) (s .left) (s .marks) .incoming ≤ 2 ^ 60
   pub outgoing : marksBehind (rules .direction) (rules .wide) (s .left) (s .marks) .outgoing ≤ 2 ^ 60
+  pub incoming-even : s .marks .incoming % 2 ≡ 0
+  pub outgoing-even : s .marks .outgoing % 2 ≡ 0

@@ -10,15 +10,15 @@ use Rattle.camac.specs.Words.{qmodeOf, wordsOf, positionOf}
 use Rattle.qmodes.specs.Modes.{triesFit, positionFits, mostLeft}
 use Rattle.camac.specs.declared.words.Command.{Command}
 use Rattle.packing.specs.declared.Marks.{Marks}
-use Rattle.walk.specs.model.Sums.{Below}
+use Rattle.packing.specs.model.Marks.{MarksTo}
 use Rattle.reply.specs.Status.{waitingBits}
 use Rattle.reply.specs.declared.records.Record.{Record}
 use Rattle.calls.specs.Fit.{marksFit, noteFits}
 
--- what an admitted list bounds: R, the words of an instruction, and the sums: the worst count after it with the marks before it
+-- what an admitted list bounds: R, the words of an instruction, the worst count after it, and the marks before it, which are even
 abbrev pub Bounded : ℕ → Command → Marks → ℕ → Type 0
 Bounded limit c m rest =
-    (limit < 2 ^ 16) × ((wordsOf (c .transfer) ≤ 2 ^ 16) × Below (2 ^ 60) (record { worst = rest; incoming = m .incoming; outgoing = m .outgoing }))
+    (limit < 2 ^ 16) × ((wordsOf (c .transfer) ≤ 2 ^ 16) × ((rest ≤ 2 ^ 60) × MarksTo (2 ^ 60) m))
 
 -- the tests of a record by itself, at an instruction
 unfoldable pub fitsCommand : ℕ → Command → Record → Bool

@@ -1,4 +1,4 @@
--- `packing::mark_after` meets its contract: the sum of what `aligned_mark` and `width_of` answer, at most 2 and 4 more than the mark.
+-- `packing::mark_after` meets its contract: the sum of what `aligned_mark` and `width_of` answer, at most 3 and 4 more than the mark.
 use borrow.Author.Needs.{needs}
 use native.Mathlib.Omega.{arith}
 use Rattle.packing.specs.Packing.{markAfter}

@@ -1,5 +1,5 @@
 -- The walk as code makes it, over the table of places with the sums so far. Nothing here is a rule of document 01.
-use Prim.Native.Nat.{ℕ, _+_, _^_, _≤_, _<_}
+use Prim.Native.Nat.{ℕ, _+_, _%_, _^_, _≤_, _<_}
 use mathlib.Core.Path.{_≡_}
 use mathlib.Core.Bool.{Bool, true}
 use mathlib.Core.List.{List, []}
@@ -33,11 +33,13 @@ FewWords (Jump target) = Unit {0}
 FewWords (Literal v) = Unit {0}
 FewWords Halt = Unit {0}
 
--- each sum is at most b
-pub record Below (b : ℕ) (s : Counts) : Type 0 where
+-- each sum is at most b, and the marks are even
+pub record SumsTo (b : ℕ) (s : Counts) : Type 0 where
   pub worst : s .worst ≤ b
   pub incoming : s .incoming ≤ b
   pub outgoing : s .outgoing ≤ b
+  pub incoming-even : s .incoming % 2 ≡ 0
+  pub outgoing-even : s .outgoing % 2 ≡ 0
 
 -- the sums after an instruction's words
 abbrev pub addedBy : Direction → Bool → ℕ → ℕ → Counts → Counts
@@ -74,7 +76,7 @@ abbrev pub WalkBy : List ℕ → Sizes → Walked → Type 0
 WalkBy list s Lost = walkFrom (s .count) (firstFields list (s .count)) firstSpot ≡ none
 WalkBy list s (Halted sums) =
     (walkFrom (s .count) (firstFields list (s .count)) firstSpot ≡ some (restFrom list (s .count) firstSpot))
-    × ((sums ≡ countsOf (planBy list s)) × Below (2 ^ 60) sums)
+    × ((sums ≡ countsOf (planBy list s)) × SumsTo (2 ^ 60) sums)
 
 -- what an answer of the preparation says: the plan, its counts and the table
 abbrev pub preparedBy : List ℕ → Preparation → Prepared
@@ -87,7 +89,7 @@ pub record PlannedRight (list table : List ℕ) (s : Sizes) (counts : Counts) : 
   pub right : TableRight list table (s .count)
   pub walk : walkFrom (s .count) (firstFields list (s .count)) firstSpot ≡ some (restFrom list (s .count) firstSpot)
   pub sums : counts ≡ countsOf (planBy list s)
-  pub below : Below (2 ^ 60) counts
+  pub below : SumsTo (2 ^ 60) counts
 
 abbrev pub PlannedBy : List ℕ → List ℕ → Preparation → Type 0
 PlannedBy list table (preparation.Refused r) = Unit {0}

@@ -1,5 +1,5 @@
-//! Document 01's cases and the manual's examples (001), with the outcomes that the papers
-//! give; K1 to K12 are document 01's names, M01 to M70 number the examples. Any engine with
+//! The cases of documents 01 and 02 and the manual's examples (001), with the outcomes that
+//! the papers give; K1 to K12 are document 01's names, M01 to M70 number the examples. Any engine with
 //! the two calls of the C interface can be held against them.
 
 use super::by_hand::*;
@@ -167,6 +167,31 @@ pub fn document_01() -> Vec<Known> {
         case("worked case", one(&single(0x0200_0102)), "admitted 1 2 0")
             .run(oks(&[0x1234]), "end 0 00000080 1 2")
             .stores("34 12"),
+    ]
+}
+
+/// Document 02's requests that have landed, in worked examples.
+pub fn document_02() -> Vec<Known> {
+    pads()
+}
+
+/// E3: "The pad bytes and every answer are as before".
+fn pads() -> Vec<Known> {
+    let read = single(0x0200_0102);
+    let literal = "21 04 00 DD CC BB AA";
+    let writes = single(0x0210_0102) + &single(0x0210_0100);
+    let case = Known::new;
+    vec![
+        case(
+            "E3, a word and a literal",
+            list(&format!("{read} {literal} {HALT}")),
+            "admitted 1 8 0",
+        )
+        .run(oks(&[0x1234]), "end 0 00000080 1 8")
+        .stores("34 12 00 00 DD CC BB AA"),
+        case("E3, two writes", one(&writes), "admitted 2 0 8")
+            .outgoing(hex("34 12 99 99 78 56 34 99"))
+            .run(oks(&[0; 2]), "end 0 00000080 2 0"),
     ]
 }
 

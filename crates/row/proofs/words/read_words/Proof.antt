@@ -2,25 +2,39 @@
 use borrow.Author.Needs.{needs}
 use mathlib.Core.Path.{_∙_}
 use native.Mathlib.Omega.{arith}
-use Rattle.row.proofs.WordLaws.{first-word, aligned-right, aligned-words, narrow-mark, padded-words}
+use Rattle.packing.proofs.MarkFacts.{aligned-multiple, aligned-above}
+use Rattle.row.proofs.WordLaws.{first-word, aligned-words, wide-room, narrow-mark, padded-words}
 use Rattle.row.proofs.words.read_words.Statement.{statement}
 use Rattle.row.proofs.words.read_words.Tie as tie
 
 pad-requires : tie.Need-pad-requires
 pad-requires c κs =
     let start = c .before .before .before .before in
-    omega (arith, aligned-words (start .args .most) (start .args .mark) (start .pre .0), rw (c .before .if1 .taken) at (start .pre .1 .1 .0))
+    omega (
+      arith,
+      wide-room (start .args .mark),
+      aligned-words (start .args .most) (start .args .mark) (start .pre .1 .1 .1 .0) (start .pre .0),
+      rw (c .before .if1 .taken) at (start .pre .1 .1 .0),
+    )
 
 read-wide-requires : tie.Need-read-wide-requires
 read-wide-requires c κs =
     let at-pad = c .before .before .before in
     let at-if1 = at-pad .before .before in
     let start = at-if1 .before .before .before in
+    let even = start .pre .1 .1 .1 .0 in
     let room = rw (at-if1 .if1 .taken) at (start .pre .1 .1 .0) in (
       start .pre .1 .0,
       (
-        omega (arith, aligned-words (start .args .most) (start .args .mark) (start .pre .0), room, at-pad .pad .ensures .0, at-pad .pad .kept .0),
-        (rw (at-pad .pad .ensures .0) (aligned-right (start .args .mark)), start .pre .1 .1 .1 .0),
+        omega (
+          arith,
+          aligned-words (start .args .most) (start .args .mark) even (start .pre .0),
+          aligned-above (start .args .mark),
+          room,
+          at-pad .pad .ensures .0,
+          at-pad .pad .kept .0,
+        ),
+        (omega (arith, aligned-multiple (start .args .mark) even, at-pad .pad .ensures .0), start .pre .1 .1 .1 .1 .0),
       ),
     )
 
@@ -34,14 +48,15 @@ returns c =
     let at-if1 = at-pad .before .before in
     let start = at-if1 .before .before .before in
     let a = start .args in
-    let some = e .1 .1 .0 (start .pre .0) (first-word (a .mask) (a .row .now) (a .from) (start .pre .1 .1 .1 .1)) in (
+    let some = e .1 .1 .0 (start .pre .0) (first-word (a .mask) (a .row .now) (a .from) (start .pre .1 .1 .1 .1 .1)) in (
       some,
       (
         e .0,
         (
           e .1 .0,
           e .1 .1 .1
-              ∙ rw (at-pad .pad .ensures .0, at-pad .pad .ensures .1, at-if1 .if1 .taken) (padded-words (a .row .now) (a .from) (a .mark) _ (a .incoming .now) some),
+              ∙ rw (at-pad .pad .ensures .0, at-if1 .if1 .taken)
+              (padded-words (a .row .now) (a .from) (a .mark) _ (a .incoming .now) _ (start .pre .1 .1 .1 .0) (rw (at-pad .pad .ensures .0) at (at-pad .pad .ensures .1)) some),
         ),
       ),
     )
@@ -61,7 +76,7 @@ returns-2 c =
     let at-if1 = c .before .before .before .before in
     let start = at-if1 .before .before .before in
     let a = start .args in
-    let some = e .1 .1 .0 (start .pre .0) (first-word (a .mask) (a .row .now) (a .from) (start .pre .1 .1 .1 .1)) in
+    let some = e .1 .1 .0 (start .pre .0) (first-word (a .mask) (a .row .now) (a .from) (start .pre .1 .1 .1 .1 .1)) in
     (some, (e .0, (e .1 .0, e .1 .1 .1 ∙ rw (at-if1 .if1 .left))))
 
 pub read-words-spec : {M : Type 1} → statement M

@@ -10,8 +10,7 @@ less-requires c κs = search needs
 fits-at-requires : tie.Need-fits-at-requires
 fits-at-requires c κs =
     let bounded = c .before .before .before .pre in
-    let below = bounded .1 .1 in
-    (bounded .0, (bounded .1 .0, record { worst = omega (arith, below .worst, c .less .ensures); incoming = below .incoming; outgoing = below .outgoing }))
+    (bounded .0, (bounded .1 .0, (omega (arith, bounded .1 .1 .0, c .less .ensures), bounded .1 .1 .1)))
 
 returns : tie.Need-returns
 returns c = simp (c .fits-at .ensures, c .before .less .ensures)

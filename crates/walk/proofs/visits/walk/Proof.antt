@@ -6,8 +6,8 @@ use mathlib.Core.Path.{_≡_, refl, sym, _∙_, subst}
 use native.Mathlib.Omega.{arith}
 use Rattle.listfile.specs.model.Table.{firstFields, FieldPassed}
 use Rattle.walk.specs.Walk.{firstSpot, walkFrom}
-use Rattle.walk.specs.model.Sums.{Below}
-use Rattle.walk.proofs.SumLaws.{below-more, turn-below, words-few}
+use Rattle.walk.specs.model.Sums.{SumsTo}
+use Rattle.walk.proofs.SumLaws.{sums-more, turn-sums-to, words-few}
 use Rattle.walk.proofs.TableFields.{field-past, field-here}
 use Rattle.walk.proofs.WalkLaws.{noCounts, ahead, ahead-start, ahead-none, ahead-past, ahead-halt, ahead-turn, walk-lost, walk-halted}
 use Rattle.walk.proofs.visits.walk.Statement.{statement}
@@ -17,7 +17,7 @@ abbrev Inv-loop : tie.InvT-loop
 Inv-loop list table count limit here₀ visits₀ sums₀ here visits sums =
     (ahead limit (walkFrom count (firstFields list count) firstSpot) noCounts
     ≡ ahead limit (walkFrom (count - visits) (firstFields list count) here) sums)
-    × (visits ≤ count) × Below (2 ^ 48 * visits) sums
+    × (visits ≤ count) × SumsTo (2 ^ 48 * visits) sums
 
 abbrev μ-loop : tie.MeasureT-loop
 μ-loop list table count limit here₀ visits₀ sums₀ here visits sums = count - visits
@@ -26,7 +26,7 @@ first-spot-requires : tie.Need-first-spot-requires Inv-loop μ-loop
 first-spot-requires c κs = search needs
 
 loop-holds : tie.Need-loop-holds Inv-loop μ-loop
-loop-holds c = (rw (c .first-spot .ensures) (ahead-start _ _ _), omega arith, record { worst = omega arith; incoming = omega arith; outgoing = omega arith })
+loop-holds c = (rw (c .first-spot .ensures) (ahead-start _ _ _), omega arith, record { worst = omega arith; incoming = omega arith; outgoing = omega arith; incoming-even = refl; outgoing-even = refl })
 
 returns : tie.Need-returns Inv-loop μ-loop
 returns c =
@@ -46,7 +46,7 @@ turn-at-requires c κs =
       at-start .pre .1 .1 .0,
       (
         subst (FieldPassed _) (sym (right .entry _ (c .before .if1 .left))) (right .passed _ (c .before .if1 .left)),
-        (omega arith, below-more (omega arith) (c .before .before .before .loop .inv .2)),
+        (omega arith, sums-more (omega arith) (c .before .before .before .loop .inv .2)),
       ),
     )
 
@@ -63,7 +63,7 @@ returns-2 c =
     let field = field-here _ _ _ _ _ _ (at-if1 .if1 .left) (at-start .pre .1 .1 .1) refl refl in
     let stopped = sym (c .before .before .turn-at .ensures) ∙ c .enum-told .given .1 in
     walk-halted _ _ _ (at-if1 .before .before .loop .inv .0 ∙ ahead-halt _ _ _ _ _ field _ (omega arith) stopped)
-    (below-more (omega arith) (at-if1 .before .before .loop .inv .2))
+    (sums-more (omega arith) (at-if1 .before .before .loop .inv .2))
 
 add-visits : tie.Need-add-visits Inv-loop μ-loop
 add-visits c = omega arith
@@ -79,10 +79,10 @@ loop-again c =
     let i = at-loop .loop .inv in
     let field = field-here _ _ _ _ _ _ (at-if1 .if1 .left) (at-start .pre .1 .1 .1) refl refl in
     let turn = sym (c .before .before .before .turn-at .ensures) ∙ c .before .turn .given .1 in
-    let below = turn-below _ _ _ _ _ _ _ (at-start .pre .1 .1 .0) (words-few _ _ _ refl) (i .2) turn in (
+    let below = turn-sums-to _ _ _ _ _ _ _ (at-start .pre .1 .1 .0) (words-few _ _ _ refl) (i .2) turn in (
       i .0 ∙ ahead-turn _ _ _ _ _ field _ _ _ _ (at-if1 .before .loop-test .taken) turn,
       omega arith,
-      below-more (omega arith) below,
+      sums-more (omega arith) below,
     )
 
 returns-3 : tie.Need-returns-3 Inv-loop μ-loop
