@@ -1,6 +1,7 @@
 -- `behind_words` is `afterWords`, field by field.
+use mathlib.Core.Path.{sym, subst}
 use Rattle.answers.proofs.VisitRoom.{note-room}
-use Rattle.answers.specs.model.Visit.{afterWords}
+use Rattle.answers.specs.model.Visit.{NoteRoom, afterWords}
 use borrow.Author.Needs.{needs}
 use Rattle.answers.proofs.behind_words.Statement.{statement}
 use Rattle.answers.proofs.behind_words.Tie as tie
@@ -17,7 +18,7 @@ place-after-words-requires c κs = search needs
 note-behind-requires : tie.Need-note-behind-requires
 note-behind-requires c κs =
     let start = c .before .before .before .before in
-    rw (start .pre .1 .1 .1 .1 .1)
+    subst (NoteRoom (start .args .rules .direction) (start .args .rules .wide)) (sym (start .pre .1 .1 .1 .1 .1))
     (note-room (start .args .rules .direction) (start .args .rules .wide) (start .args .words) (start .args .here .marks) (start .pre .0))
 
 returns : tie.Need-returns
