@@ -20,7 +20,7 @@ use Rattle.camac.specs.declared.words.Direction.{Direction}
 use Rattle.camac.specs.declared.words.Direction.the-variants.{Incoming, Outgoing, Neither}
 use Rattle.packing.specs.Packing.{widthOf, markAfter, markAfterWords, stored}
 use Rattle.packing.specs.declared.Marks.{Marks}
-use Rattle.packing.specs.model.Marks.{MarksTo}
+use Rattle.packing.specs.model.Marks.{EvenMarks, MarksTo}
 use Rattle.packing.proofs.MarkFacts.{mark-grows, words-even}
 use Rattle.row.specs.model.Words.{longwordIn, flagsAt, WordsAt, wordsStored}
 use Rattle.answers.specs.model.Visit.{rulesOf, rulesIn, marksBehind, NoteRoom, afterWords, bytesBy, bytesAfter, afterWait, Words, Waits, Passed, words, wait, Roomy}
@@ -88,11 +88,10 @@ marks-fewer d wide j k m h =
     subst (λ (n : ℕ). Grown (marksBehind d wide j m) (marksBehind d wide n m)) e
     (subst (Grown (marksBehind d wide j m)) (marks-add d wide j (k - j) m) (marks-grow d wide (k - j) (marksBehind d wide j m)))
 
-marks-even : (d : Direction) (wide : Bool) (k : ℕ) (m : Marks) → m .incoming % 2 ≡ 0 → m .outgoing % 2 ≡ 0
-    → (marksBehind d wide k m .incoming % 2 ≡ 0) × (marksBehind d wide k m .outgoing % 2 ≡ 0)
-marks-even Incoming wide k m i o = (words-even wide k (m .incoming) i, o)
-marks-even Outgoing wide k m i o = (i, words-even wide k (m .outgoing) o)
-marks-even Neither wide k m i o = (i, o)
+marks-even : (d : Direction) (wide : Bool) (k : ℕ) (m : Marks) → EvenMarks m → EvenMarks (marksBehind d wide k m)
+marks-even Incoming wide k m e = record { incoming = words-even wide k (m .incoming) (e .incoming); outgoing = e .outgoing }
+marks-even Outgoing wide k m e = record { incoming = e .incoming; outgoing = words-even wide k (m .outgoing) (e .outgoing) }
+marks-even Neither wide k m e = e
 
 -- behind one word
 module _ (d : Direction) (wide : Bool) (m : Marks) (n : ℕ) where
@@ -205,8 +204,7 @@ module _ (rules : Rules) (row : List ℕ) (answers : ℕ) (s : Stay) (b : List �
   marks-to = record {
     incoming = omega (arith, marks-grow (rules .direction) (rules .wide) (s .left) (s .marks) .incoming, m .small);
     outgoing = omega (arith, marks-grow (rules .direction) (rules .wide) (s .left) (s .marks) .outgoing, m .outgoing);
-    incoming-even = m .incoming-even;
-    outgoing-even = m .outgoing-even;
+    even = m .even;
   }
 
   pub read-room : (k : ℕ) → k ≤ s .left → marksBehind (rules .direction) (rules .wide) k (s .marks) .incoming ≤ length b
@@ -247,8 +245,7 @@ module _ (rules : Rules) (row : List ℕ) (answers : ℕ) (s : Stay) (b : List �
         incoming = omega (arith, ap (λ (x : Marks). x .incoming) marks, m .incoming, e);
         small = omega (arith, ap (λ (x : Marks). x .incoming) marks, m .small);
         outgoing = omega (arith, ap (λ (x : Marks). x .outgoing) marks, m .outgoing);
-        incoming-even = marks-even (rules .direction) (rules .wide) k (s .marks) (m .incoming-even) (m .outgoing-even) .0;
-        outgoing-even = marks-even (rules .direction) (rules .wide) k (s .marks) (m .incoming-even) (m .outgoing-even) .1;
+        even = marks-even (rules .direction) (rules .wide) k (s .marks) (m .even);
       }
 
   pub roomy-wait : (limit : ℕ) → limit < 65536 → Waits rules limit row answers s → Roomy rules row answers (afterWait rules s) b
@@ -264,8 +261,7 @@ module _ (rules : Rules) (row : List ℕ) (answers : ℕ) (s : Stay) (b : List �
     incoming = m .incoming;
     small = m .small;
     outgoing = m .outgoing;
-    incoming-even = m .incoming-even;
-    outgoing-even = m .outgoing-even;
+    even = m .even;
   }
 
 -- some of the words that may come

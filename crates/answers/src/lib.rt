@@ -137,6 +137,7 @@ fn behind_words(rules: Rules, here: Stay, words: usize, marks: Marks) -> Stay
     }
 }
 
+// The same, with the marks found too.
 fn after_words(rules: Rules, here: Stay, words: usize) -> Stay
     requires { ⌜ (1 ≤ words) × ((words ≤ here .left) × ((here .left ≤ 65536) × ((here .taken < 2 ^ 61) × ((here .position < 65536)
         × MarksTo (2 ^ 60) (here .marks))))) ⌝ }

@@ -9,7 +9,7 @@ use borrow.Author.Tests.{eqb-true, eqb-false}
 use lib.Dec.{eqb}
 use lib.ListN.{length, getD, replicate, length-append, length-replicate}
 use lib.Seq.{sets, length-sets}
-use Rattle.base.specs.Bytes.{longBytes}
+use Rattle.base.specs.Bytes.{shortBytes, longBytes}
 use Rattle.base.specs.Checks.{if_then_else_}
 use Rattle.base.proofs.Puts.{sets-other, zeros-left}
 use Rattle.base.proofs.Tests.{on}
@@ -18,6 +18,16 @@ use Rattle.packing.specs.Packing.{padAt, alignedMark, widthOf, markAfter
 pub mark-grows : (wide : Bool) (m : ℕ) → m ≤ markAfter wide m
 unfolding markAfter alignedMark
 mark-grows wide m = omega arith
+
+-- by the word size
+module _ (m : ℕ) where
+  pub mark-narrow : markAfter false m ≡ m + 2
+  unfolding markAfter alignedMark padAt widthOf
+  mark-narrow = omega arith
+
+  pub mark-wide : markAfter true m ≡ alignedMark true m + 4
+  unfolding markAfter widthOf
+  mark-wide = refl
 
 -- The aligned mark -------------------------------------------------------------------------------------------------------
 
@@ -91,9 +101,12 @@ stored-beyond wide v m buffer i h =
       bytes-length wide v,
     ))
 
--- a word over four zeros at the mark
-pub stored-over : (v m : ℕ) (buffer : List ℕ)
-    → sets (sets buffer m (replicate 4 0)) (alignedMark true m) (longBytes v) ≡ stored true v m buffer
+pub stored-narrow : (v m : ℕ) (buffer : List ℕ) → stored false v m buffer ≡ sets buffer m (shortBytes v)
+unfolding stored padAt
+stored-narrow v m buffer = refl
+
+-- a word of 24 bits over four zeros at the mark
+pub stored-over : (v m : ℕ) (buffer : List ℕ) → sets (sets buffer m (longBytes 0)) (alignedMark true m) (longBytes v) ≡ stored true v m buffer
 unfolding stored alignedMark padAt
 stored-over v m buffer = zeros-left buffer m 4 (m % 4) (longBytes v) (omega arith) (omega arith)
 

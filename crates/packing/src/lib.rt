@@ -1,7 +1,7 @@
 // Packing: fill marks, and the bytes of words and literals in the host's buffers.
 ghost use mathlib.Core.Path.{_≡_};
 ghost use mathlib.Core.Bool.{true};
-ghost use Prim.Native.Nat.{ℕ, _+_, _%_, _^_, _<_, _≤_};
+ghost use Prim.Native.Nat.{_+_, _%_, _^_, _<_, _≤_};
 ghost use lib.ListN.{length};
 ghost use lib.Seq.{sets};
 ghost use Rattle.base.specs.Bytes.{longBytes};
@@ -50,12 +50,11 @@ pub fn mark_after_words(wide: bool, words: u64, mark: u64) -> u64
     mark + words * 2
 }
 
-// Makes a buffer ready for a 24-bit word or a literal at the mark: where it goes, with zeros before it. Zeros that are no pad lie where its bytes
-// go, so that nothing here depends on the mark's remainder.
+// Makes a buffer ready for a 24-bit word or a literal at the mark: where it goes, and four zero bytes at the mark. Those of them that are no pad lie
+// where the word's bytes go, so that nothing here depends on the mark's remainder.
 pub fn pad(buffer: &mut [u8], mark: usize) -> usize
     requires { ⌜ markAfter true mark ≤ length (now buffer) ⌝ }
-    ensures { λ r. ⌜ (r ≡ alignedMark true mark)
-        × ((v : ℕ) → sets (now (buffer .exit)) r (longBytes v) ≡ stored true v mark (now (buffer .entry))) ⌝ }
+    ensures { λ r. ⌜ (r ≡ alignedMark true mark) × (now (buffer .exit) ≡ sets (now (buffer .entry)) mark (longBytes 0)) ⌝ }
 {
     let to = aligned_mark(true, mark);
     base::put_long(buffer, mark, 0);

@@ -18,7 +18,7 @@ use Rattle.base.specs.Bytes.{byteAt, shortBytes, longBytes}
 use Rattle.base.proofs.Bools.{and-left, and-right}
 use Rattle.base.proofs.Tests.{on, true-not-false}
 use Rattle.packing.specs.Packing.{padAt, alignedMark, widthOf, markAfter, markAfterWords, stored}
-use Rattle.packing.proofs.MarkFacts.{aligned-multiple, words-closed, stored-length}
+use Rattle.packing.proofs.MarkFacts.{aligned-multiple, words-closed, stored-length, stored-narrow, stored-over}
 use Rattle.reply.specs.Replies.{hasForm, replyOf, isFormed, repliesIn, allFormed}
 use Rattle.reply.specs.Effect.{longwordOf}
 use Rattle.reply.specs.declared.replies.Reply.the-variants.{Answered}
@@ -151,19 +151,7 @@ module _ (mark : ℕ) (four : mark % 4 ≡ 0) where
   wide-mark zero = omega arith
   wide-mark (suc k) = omega (arith, aligned-same, aligned-words (suc k) mark (omega arith) (omega arith))
 
-pub narrow-room : (mark : ℕ) → markAfter false mark ≡ mark + 2
-unfolding markAfter alignedMark padAt widthOf
-narrow-room mark = omega arith
-
-pub wide-room : (mark : ℕ) → markAfter true mark ≡ alignedMark true mark + 4
-unfolding markAfter widthOf
-wide-room mark = refl
-
 -- Words stored -----------------------------------------------------------------------------------------------------------
-
-pub stored-narrow : (v mark : ℕ) (buffer : List ℕ) → stored false v mark buffer ≡ sets buffer mark (shortBytes v)
-unfolding stored padAt
-stored-narrow v mark buffer = refl
 
 stored-bare : (v mark : ℕ) (buffer : List ℕ) → mark % 4 ≡ 0 → stored true v mark buffer ≡ sets buffer mark (longBytes v)
 unfolding stored padAt
@@ -201,18 +189,17 @@ first-stored : (row : List ℕ) (from mark : ℕ) (buffer : List ℕ)
 unfolding wordsStored markAfterWords
 first-stored row from mark buffer = refl
 
--- words behind a pad: where each word put behind it is stored as at the mark, all are
-pub padded-words : (row : List ℕ) (from mark k : ℕ) (buffer padded : List ℕ) → mark % 2 ≡ 0
-    → ((v : ℕ) → sets padded (alignedMark true mark) (longBytes v) ≡ stored true v mark buffer) → 1 ≤ k
-    → wordsStored true row from (alignedMark true mark) k padded ≡ wordsStored true row from mark k buffer
-padded-words row from mark zero buffer padded even over h = absurd (omega arith)
-padded-words row from mark (suc zero) buffer padded even over h =
-    first-stored row from (alignedMark true mark) padded
-    ∙ stored-bare _ (alignedMark true mark) padded (aligned-multiple mark even)
-    ∙ over _
+-- words over the zeros of a pad
+pub padded-words : (row : List ℕ) (from mark k : ℕ) (buffer : List ℕ) → mark % 2 ≡ 0 → 1 ≤ k
+    → wordsStored true row from (alignedMark true mark) k (sets buffer mark (longBytes 0)) ≡ wordsStored true row from mark k buffer
+padded-words row from mark zero buffer even h = absurd (omega arith)
+padded-words row from mark (suc zero) buffer even h =
+    first-stored row from (alignedMark true mark) _
+    ∙ stored-bare _ (alignedMark true mark) _ (aligned-multiple mark even)
+    ∙ stored-over _ mark buffer
     ∙ sym (first-stored row from mark buffer)
-padded-words row from mark (suc (suc k)) buffer padded even over h =
+padded-words row from mark (suc (suc k)) buffer even h =
     let same : markAfterWords true (suc k) (alignedMark true mark) ≡ markAfterWords true (suc k) mark =
     wide-mark (alignedMark true mark) (aligned-multiple mark even) (suc k) ∙ sym (aligned-words (suc k) mark even (omega arith)) in
-    stored-more row from (alignedMark true mark) true (suc k) padded
-    ∙ rw (same, padded-words row from mark (suc k) buffer padded even over (omega arith)) (sym (stored-more row from mark true (suc k) buffer))
+    stored-more row from (alignedMark true mark) true (suc k) _
+    ∙ rw (same, padded-words row from mark (suc k) buffer even (omega arith)) (sym (stored-more row from mark true (suc k) buffer))

@@ -10,6 +10,7 @@ use lib.ListN.{length, getD}
 use Rattle.base.specs.Checks.{if_then_else_}
 use Rattle.camac.specs.declared.words.Command.{Command}
 use Rattle.packing.specs.declared.Marks.{Marks}
+use Rattle.packing.specs.model.Marks.{EvenMarks}
 use Rattle.listfile.specs.model.Table.{instructionAt, firstFields, TableRight}
 use Rattle.listfile.specs.declared.check.Sizes.{Sizes}
 use Rattle.listfile.specs.declared.field.Instruction.{Instruction}
@@ -23,7 +24,7 @@ use Rattle.walk.specs.declared.worst.Counts.{Counts}
 use Rattle.walk.specs.declared.visits.Turn.{Turn}
 use Rattle.walk.specs.declared.visits.Turn.the-variants.{To, Stopped}
 use Rattle.walk.proofs.Halting.{Well, well-after}
-use Rattle.walk.proofs.MarksGrow.{BelowMarks, below, over-grows, EvenMarks, after-even, marks-even}
+use Rattle.walk.proofs.MarksGrow.{BelowMarks, below, over-grows, after-even, marks-even}
 use Rattle.walk.proofs.Rest.{OnWalk, on-walk, rest-next, rest-ends}
 use Rattle.walk.proofs.SumLaws.{marksIn, countsBy, turn-went, turn-halts}
 use Rattle.calls.specs.Fit.{fitsAt, fitsFrom, fits}
@@ -188,8 +189,7 @@ finding-below list n limit k counts j s f b =
       worst = omega (arith, ap (λ (c : Counts). c .worst) (f .total), b .worst);
       incoming = omega (arith, ap (λ (c : Counts). c .incoming) (f .total), b .incoming, m .incoming);
       outgoing = omega (arith, ap (λ (c : Counts). c .outgoing) (f .total), b .outgoing, m .outgoing);
-      incoming-even = f .even .incoming;
-      outgoing-even = f .even .outgoing;
+      even = f .even;
     }
 
 module _ (list table : List ℕ) (n : ℕ) (j : Spot) (at : ℕ) (i : Instruction) (right : TableRight list table n) (ea : at ≡ getD table (j .instruction) 0)
@@ -271,8 +271,7 @@ module _ (list table : List ℕ) (s : Sizes) (counts : Counts) (x : PlannedFor l
     pub found-bounded : Bounded (s .limit) c (marksIn sums) (counts .worst)
     unfolding countsOf
     found-bounded =
-        let m = found-marks (s .limit) (r .spot) (restFrom list (s .count) firstSpot) c sums after place in
-        let even = found-even (s .limit) (r .spot) (restFrom list (s .count) firstSpot) c sums after place in (
+        let m = found-marks (s .limit) (r .spot) (restFrom list (s .count) firstSpot) c sums after place in (
           x .planned .small,
           (
             found-sound (s .limit) (r .spot) (restFrom list (s .count) firstSpot) c sums after place (plan-sound list plan (x .bytes) (x .plan) .well) .words-most,
@@ -281,8 +280,7 @@ module _ (list table : List ℕ) (s : Sizes) (counts : Counts) (x : PlannedFor l
               record {
                 incoming = omega (arith, m .incoming, ap (λ (y : Counts). y .incoming) (x .planned .sums), x .planned .below .incoming);
                 outgoing = omega (arith, m .outgoing, ap (λ (y : Counts). y .outgoing) (x .planned .sums), x .planned .below .outgoing);
-                incoming-even = even .incoming;
-                outgoing-even = even .outgoing;
+                even = found-even (s .limit) (r .spot) (restFrom list (s .count) firstSpot) c sums after place;
               },
             ),
           ),

@@ -1,5 +1,5 @@
 -- Along a walk neither mark falls, and both stay even: that holds of each word that moves a mark, and everything here is made of those.
-use Prim.Native.Nat.{ℕ, zero, suc, _%_, _≤_, zero-le}
+use Prim.Native.Nat.{ℕ, zero, suc, _≤_, zero-le}
 use mathlib.Core.Path.{_≡_, refl}
 use mathlib.Core.Bool.{Bool, true}
 use mathlib.Core.List.{List, [], _∷_, _++_}
@@ -10,6 +10,7 @@ use Rattle.camac.specs.declared.words.Command.{Command}
 use Rattle.camac.specs.declared.words.Direction.{Direction}
 use Rattle.camac.specs.declared.words.Direction.the-variants.{Incoming, Outgoing, Neither}
 use Rattle.packing.specs.declared.Marks.{Marks}
+use Rattle.packing.specs.model.Marks.{EvenMarks}
 use Rattle.packing.proofs.MarkFacts.{mark-grows, mark-even}
 use Rattle.listfile.specs.declared.field.Instruction.{Instruction}
 use Rattle.listfile.specs.declared.field.Instruction.the-variants.{Camac, Jump, Literal, Halt}
@@ -72,10 +73,6 @@ pub below : (ws pre vs : List Visit) (m : Marks) → ws ≡ pre ++ vs → BelowM
 below ws pre vs m e = rw (e, over-append pre vs m) (over-grows vs (marksOver pre m))
 
 -- Marks stay even --------------------------------------------------------------------------------------------------------
-
-pub record EvenMarks (m : Marks) : Type 0 where
-  pub incoming : m .incoming % 2 ≡ 0
-  pub outgoing : m .outgoing % 2 ≡ 0
 
 by-even : (d : Direction) (wide : Bool) (m : Marks) → EvenMarks m → EvenMarks (movedBy d wide m)
 by-even Incoming wide m e = record { incoming = mark-even wide (m .incoming) (e .incoming); outgoing = e .outgoing }

@@ -136,8 +136,7 @@ sums-more h x = record {
   worst = omega (arith, x .worst);
   incoming = omega (arith, x .incoming);
   outgoing = omega (arith, x .outgoing);
-  incoming-even = x .incoming-even;
-  outgoing-even = x .outgoing-even;
+  even = x .even;
 }
 
 -- one mark after some words, the other sums as they are
@@ -146,10 +145,9 @@ module _ {b : ℕ} {s : Counts} (wide : Bool) (n : ℕ) (few : n ≤ 2 ^ 32) whe
       → SumsTo (b + 2 ^ 48) (record { worst = s .worst; incoming = markAfterWords wide n (s .incoming); outgoing = s .outgoing })
   incoming-to h x = record {
     worst = x .worst;
-    incoming = omega (arith, mark-small wide n (s .incoming) (x .incoming-even) few);
+    incoming = omega (arith, mark-small wide n (s .incoming) (x .even .incoming) few);
     outgoing = x .outgoing;
-    incoming-even = words-even wide n (s .incoming) (x .incoming-even);
-    outgoing-even = x .outgoing-even;
+    even = record { incoming = words-even wide n (s .incoming) (x .even .incoming); outgoing = x .even .outgoing };
   }
 
   outgoing-to : s .outgoing ≤ b → SumsTo (b + 2 ^ 48) s
@@ -157,9 +155,8 @@ module _ {b : ℕ} {s : Counts} (wide : Bool) (n : ℕ) (few : n ≤ 2 ^ 32) whe
   outgoing-to h x = record {
     worst = x .worst;
     incoming = x .incoming;
-    outgoing = omega (arith, mark-small wide n (s .outgoing) (x .outgoing-even) few);
-    incoming-even = x .incoming-even;
-    outgoing-even = words-even wide n (s .outgoing) (x .outgoing-even);
+    outgoing = omega (arith, mark-small wide n (s .outgoing) (x .even .outgoing) few);
+    even = record { incoming = x .even .incoming; outgoing = words-even wide n (s .outgoing) (x .even .outgoing) };
   }
 
 command-sums-to : (limit b : ℕ) (c : Command) (s : Counts) → limit < 2 ^ 16 → wordsOf (c .transfer) ≤ 2 ^ 32 → SumsTo b s
@@ -175,8 +172,7 @@ command-sums-to limit b c s hl h x = by (directionOf (c .transfer))
       worst = omega (arith, x .worst, worst-small limit (qmodeOf (c .transfer)) (positionOf (c .transfer)) (wordsOf (c .transfer)) hl h);
       incoming = omega (arith, x .incoming);
       outgoing = omega (arith, x .outgoing);
-      incoming-even = x .incoming-even;
-      outgoing-even = x .outgoing-even;
+      even = x .even;
     }
 
     by : (d : Direction) → SumsTo (b + 2 ^ 48) (addedBy d (c .wide) (wordsOf (c .transfer)) (s .worst + w) s)

@@ -309,8 +309,7 @@ module _ {z : Run} {answers : ℕ} (g : Admitted z) (answered : Answered (z .row
           incoming = omega (arith, n .room, ap (λ (y : Marks). y .incoming) m);
           small = omega (arith, n .incoming-behind, ap (λ (y : Marks). y .incoming) m);
           outgoing = omega (arith, n .outgoing-behind, ap (λ (y : Marks). y .outgoing) m);
-          incoming-even = n .even .incoming;
-          outgoing-even = n .even .outgoing;
+          even = n .even;
         })
 
     -- its answers passed: each word left takes one at least

@@ -10,6 +10,7 @@ use lib.Seq.{append-snoc}
 use Rattle.camac.specs.Words.{wordsOf}
 use Rattle.camac.specs.declared.words.Command.{Command}
 use Rattle.packing.specs.declared.Marks.{Marks}
+use Rattle.packing.specs.model.Marks.{EvenMarks}
 use Rattle.listfile.specs.declared.check.Sizes.{Sizes}
 use Rattle.listfile.proofs.Sound.{SoundCommand}
 use Rattle.walk.specs.Walk.{Visit, noMarks, moved, movedWords, marksAfter, marksOver}
@@ -18,7 +19,7 @@ use Rattle.walk.specs.Admission.{Plan, countsOf}
 use Rattle.walk.specs.model.Sums.{planBy}
 use Rattle.walk.specs.declared.worst.Counts.{Counts}
 use Rattle.walk.proofs.Halting.{Well, well-after}
-use Rattle.walk.proofs.MarksGrow.{BelowMarks, EvenMarks, moved-grows, over-snoc, below}
+use Rattle.walk.proofs.MarksGrow.{BelowMarks, moved-grows, over-snoc, below}
 use Rattle.reply.specs.declared.records.Record.{Record}
 use Rattle.worst_count.proofs.Live.{Live, camacVisit, waits-once, fits-live, live-waits}
 use Rattle.worst_count.proofs.RunOn.{lastMarks}

@@ -11,10 +11,11 @@ use Rattle.camac.specs.Words.{qmodeOf, wordsOf, positionOf}
 use Rattle.qmodes.specs.declared.modes.QMode.{QMode}
 use Rattle.qmodes.specs.declared.modes.QMode.the-variants.{Stop, Ignore, Repeat, Scan}
 use Rattle.camac.specs.declared.words.Command.{Command}
+use Rattle.packing.specs.model.Marks.{EvenMarks}
 use Rattle.walk.specs.Walk.{Visit, moved}
 use Rattle.walk.specs.Worst.{worstOver}
 use Rattle.walk.specs.Admission.{Plan, ready, prepare}
-use Rattle.walk.proofs.MarksGrow.{BelowMarks, EvenMarks}
+use Rattle.walk.proofs.MarksGrow.{BelowMarks}
 use Rattle.reply.specs.Replies.{replyOf}
 use Rattle.reply.specs.Status.{waitingBits}
 use Rattle.reply.specs.Effect.{State}

@@ -18,6 +18,7 @@ use Rattle.qmodes.specs.declared.scan.ScanPosition.{ScanPosition}
 use Rattle.qmodes.proofs.MostFalls.{TriesOk, PositionOk, Near, Room}
 use Rattle.base.proofs.Bools.{both, and-left, and-right, or-cases, or-left, or-right}
 use Rattle.packing.specs.declared.Marks.{Marks}
+use Rattle.packing.specs.model.Marks.{EvenMarks}
 use Rattle.listfile.specs.declared.field.Instruction.{Instruction}
 use Rattle.listfile.specs.declared.field.Instruction.the-variants.{Camac, Jump, Literal, Halt}
 use Rattle.walk.specs.Walk.{Visit, upTo, onFrom, noMarks, movedWords, marksOver}
@@ -33,7 +34,7 @@ use Rattle.worst_count.specs.WorstCount.{WaitsAt}
 use Rattle.worst_count.proofs.StatusBits.{Only}
 use Rattle.walk.specs.declared.visits.Spot.{Spot}
 use Rattle.walk.proofs.Spots.{split-at, on-from-spot}
-use Rattle.walk.proofs.MarksGrow.{BelowMarks, EvenMarks, words-even, marks-even}
+use Rattle.walk.proofs.MarksGrow.{BelowMarks, words-even, marks-even}
 use Rattle.walk.specs.Walk.{movedBy}
 use Rattle.camac.specs.declared.words.Direction.{Direction}
 

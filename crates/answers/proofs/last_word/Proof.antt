@@ -20,7 +20,7 @@ enum-told-2 c = search needs
 
 mark-behind-requires : tie.Need-mark-behind-requires
 mark-behind-requires c κs =
-    let m = marks-to _ _ _ _ _ (c .before .before .before .before .before .pre .0) in (omega arith, (m .outgoing, m .outgoing-even))
+    let m = marks-to _ _ _ _ _ (c .before .before .before .before .before .pre .0) in (omega arith, (m .outgoing, m .even .outgoing))
 
 enum-told-3 : tie.Need-enum-told-3
 enum-told-3 c = search needs

@@ -45,7 +45,7 @@ read-words-requires c κs =
       p .2 .0,
       (
         omega (arith, p .2 .1 .1, p .0 .within),
-        (read-in _ _ _ _ _ (p .0) _ (omega (arith, p .2 .1 .0, ahead-most (start .args .rules .q) (start .args .here .position) (start .args .here .left))) (c .before .enum-told .given .1), (p .0 .incoming-even, (p .0 .row-formed, p .1 .are))),
+        (read-in _ _ _ _ _ (p .0) _ (omega (arith, p .2 .1 .0, ahead-most (start .args .rules .q) (start .args .here .position) (start .args .here .left))) (c .before .enum-told .given .1), (p .0 .even .incoming, (p .0 .row-formed, p .1 .are))),
       ),
     )
 

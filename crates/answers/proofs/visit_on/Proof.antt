@@ -85,7 +85,8 @@ returns-3 c = c .before .before .before .before .before .before .before .before 
 
 after-wait-requires : tie.Need-after-wait-requires Inv-loop μ-loop
 after-wait-requires c κs =
-    let m = c .before .before .before .before .before .before .before .before .loop .inv .1 .0 in (m .tries, (omega (arith, m .taken), m .position))
+    let at-loop = c .before .before .before .before .before .before .before .before in
+    let m = at-loop .loop .inv .1 .0 in (m .tries, (omega (arith, m .taken, at-loop .before .before .before .good .1 .1 .1 .1 .0 .1), m .position))
 
 loop-less-2 : tie.Need-loop-less-2 Inv-loop μ-loop
 loop-less-2 c = omega (arith, c .before .before .before .before .before .if2 .left, wait-taken _ _ _ (c .after-wait .ensures) .0)

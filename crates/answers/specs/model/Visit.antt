@@ -17,6 +17,7 @@ use Rattle.camac.specs.declared.words.Direction.{Direction}
 use Rattle.camac.specs.declared.words.Direction.the-variants.{Incoming, Outgoing, Neither}
 use Rattle.packing.specs.Packing.{widthOf, markAfterWords}
 use Rattle.packing.specs.declared.Marks.{Marks}
+use Rattle.packing.specs.model.Marks.{EvenMarks}
 use Rattle.walk.specs.declared.visits.Spot.{Spot}
 use Rattle.reply.specs.Replies.{repliesIn, allFormed}
 use Rattle.reply.specs.declared.records.Note.{Note}
@@ -160,5 +161,4 @@ pub record Roomy (rules : Rules) (row : List ℕ) (answers : ℕ) (s : Stay) (b 
   pub incoming : marksBehind (rules .direction) (rules .wide) (s .left) (s .marks) .incoming ≤ length b
   pub small : marksBehind (rules .direction) (rules .wide) (s .left) (s .marks) .incoming ≤ 2 ^ 60
   pub outgoing : marksBehind (rules .direction) (rules .wide) (s .left) (s .marks) .outgoing ≤ 2 ^ 60
-  pub incoming-even : s .marks .incoming % 2 ≡ 0
-  pub outgoing-even : s .marks .outgoing % 2 ≡ 0
+  pub even : EvenMarks (s .marks)

@@ -1,5 +1,5 @@
 -- The walk as code makes it, over the table of places with the sums so far. Nothing here is a rule of document 01.
-use Prim.Native.Nat.{ℕ, _+_, _%_, _^_, _≤_, _<_}
+use Prim.Native.Nat.{ℕ, _+_, _^_, _≤_, _<_}
 use mathlib.Core.Path.{_≡_}
 use mathlib.Core.Bool.{Bool, true}
 use mathlib.Core.List.{List, []}
@@ -9,6 +9,7 @@ use Rattle.camac.specs.declared.words.Command.{Command}
 use Rattle.camac.specs.declared.words.Direction.{Direction}
 use Rattle.camac.specs.declared.words.Direction.the-variants.{Incoming, Outgoing, Neither}
 use Rattle.packing.specs.Packing.{markAfterWords}
+use Rattle.packing.specs.model.Marks.{EvenMarks}
 use Rattle.listfile.specs.model.Table.{firstFields, TableRight}
 use Rattle.listfile.specs.declared.field.Instruction.{Instruction}
 use Rattle.listfile.specs.declared.field.Instruction.the-variants.{Camac, Jump, Literal, Halt}
@@ -38,8 +39,7 @@ pub record SumsTo (b : ℕ) (s : Counts) : Type 0 where
   pub worst : s .worst ≤ b
   pub incoming : s .incoming ≤ b
   pub outgoing : s .outgoing ≤ b
-  pub incoming-even : s .incoming % 2 ≡ 0
-  pub outgoing-even : s .outgoing % 2 ≡ 0
+  pub even : EvenMarks (record { incoming = s .incoming; outgoing = s .outgoing })
 
 -- the sums after an instruction's words
 abbrev pub addedBy : Direction → Bool → ℕ → ℕ → Counts → Counts

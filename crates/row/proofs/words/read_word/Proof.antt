@@ -2,7 +2,8 @@
 use borrow.Author.Needs.{needs}
 use mathlib.Core.Path.{sym, _∙_}
 use native.Mathlib.Omega.{arith}
-use Rattle.row.proofs.WordLaws.{reply-top, narrow-room, wide-room, stored-narrow}
+use Rattle.packing.proofs.MarkFacts.{mark-narrow, mark-wide, stored-narrow, stored-over}
+use Rattle.row.proofs.WordLaws.{reply-top}
 use Rattle.row.proofs.words.read_word.Statement.{statement}
 use Rattle.row.proofs.words.read_word.Tie as tie
 
@@ -18,7 +19,7 @@ put-wide-requires c κs =
     let at-if1 = at-pad .before .before in
     let start = at-if1 .before .before .before in
     let room = rw (at-if1 .if1 .taken) at (start .pre .0) in (
-      omega (arith, wide-room (start .args .mark), room, at-pad .pad .ensures .0, at-pad .pad .kept .0),
+      omega (arith, mark-wide (start .args .mark), room, at-pad .pad .ensures .0, at-pad .pad .kept .0),
       (start .pre .1 .0, reply-top (start .args .row .now) (start .pre .1 .1) (start .args .k) (omega arith)),
     )
 
@@ -27,7 +28,7 @@ add-result c =
     let at-pad = c .before .before .before .before .before .before in
     let at-if1 = at-pad .before .before in
     let start = at-if1 .before .before .before in
-    omega (arith, wide-room (start .args .mark), rw (at-if1 .if1 .taken) at (start .pre .0), at-pad .pad .ensures .0)
+    omega (arith, mark-wide (start .args .mark), rw (at-if1 .if1 .taken) at (start .pre .0), at-pad .pad .ensures .0)
 
 mul-put-narrow : tie.Need-mul-put-narrow
 mul-put-narrow c = search needs
@@ -35,13 +36,13 @@ mul-put-narrow c = search needs
 put-narrow-requires : tie.Need-put-narrow-requires
 put-narrow-requires c κs =
     let start = c .before .before .before .before in
-    (omega (arith, narrow-room (start .args .mark), rw (c .before .if1 .left) at (start .pre .0)), start .pre .1 .0)
+    (omega (arith, mark-narrow (start .args .mark), rw (c .before .if1 .left) at (start .pre .0)), start .pre .1 .0)
 
 add-result-2 : tie.Need-add-result-2
 add-result-2 c =
     let at-if1 = c .before .before .before .before in
     let start = at-if1 .before .before .before in
-    omega (arith, narrow-room (start .args .mark), rw (at-if1 .if1 .left) at (start .pre .0))
+    omega (arith, mark-narrow (start .args .mark), rw (at-if1 .if1 .left) at (start .pre .0))
 
 same-length : tie.Need-same-length
 same-length c = search needs
@@ -50,8 +51,8 @@ returns : tie.Need-returns
 returns c =
     let at-pad = c .before .before .before .before .before .before in
     let at-if1 = at-pad .before .before in (
-      rw (at-pad .pad .ensures .0, at-if1 .if1 .taken) (sym (wide-room _)),
-      c .before .before .put-wide .ensures ∙ at-pad .pad .ensures .1 _ ∙ rw (at-if1 .if1 .taken),
+      rw (at-pad .pad .ensures .0, at-if1 .if1 .taken) (sym (mark-wide _)),
+      c .before .before .put-wide .ensures ∙ rw (at-pad .pad .ensures .0, at-pad .pad .ensures .1, at-if1 .if1 .taken) (stored-over _ _ _),
     )
 
 same-length-2 : tie.Need-same-length-2
@@ -61,7 +62,7 @@ returns-2 : tie.Need-returns-2
 returns-2 c =
     let at-if1 = c .before .before .before .before in
     let a = at-if1 .before .before .before .args in (
-      rw (at-if1 .if1 .left) (sym (narrow-room _)),
+      rw (at-if1 .if1 .left) (sym (mark-narrow _)),
       c .before .before .put-narrow .ensures ∙ rw (at-if1 .if1 .left) (sym (stored-narrow _ (a .mark) (a .incoming .now))),
     )
 

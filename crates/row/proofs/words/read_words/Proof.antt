@@ -2,8 +2,8 @@
 use borrow.Author.Needs.{needs}
 use mathlib.Core.Path.{_∙_}
 use native.Mathlib.Omega.{arith}
-use Rattle.packing.proofs.MarkFacts.{aligned-multiple, aligned-above}
-use Rattle.row.proofs.WordLaws.{first-word, aligned-words, wide-room, narrow-mark, padded-words}
+use Rattle.packing.proofs.MarkFacts.{mark-wide, aligned-multiple, aligned-above}
+use Rattle.row.proofs.WordLaws.{first-word, aligned-words, narrow-mark, padded-words}
 use Rattle.row.proofs.words.read_words.Statement.{statement}
 use Rattle.row.proofs.words.read_words.Tie as tie
 
@@ -12,7 +12,7 @@ pad-requires c κs =
     let start = c .before .before .before .before in
     omega (
       arith,
-      wide-room (start .args .mark),
+      mark-wide (start .args .mark),
       aligned-words (start .args .most) (start .args .mark) (start .pre .1 .1 .1 .0) (start .pre .0),
       rw (c .before .if1 .taken) at (start .pre .1 .1 .0),
     )
@@ -55,8 +55,8 @@ returns c =
         (
           e .1 .0,
           e .1 .1 .1
-              ∙ rw (at-pad .pad .ensures .0, at-if1 .if1 .taken)
-              (padded-words (a .row .now) (a .from) (a .mark) _ (a .incoming .now) _ (start .pre .1 .1 .1 .0) (rw (at-pad .pad .ensures .0) at (at-pad .pad .ensures .1)) some),
+              ∙ rw (at-pad .pad .ensures .0, at-pad .pad .ensures .1, at-if1 .if1 .taken)
+              (padded-words (a .row .now) (a .from) (a .mark) _ (a .incoming .now) (start .pre .1 .1 .1 .0) some),
         ),
       ),
     )

@@ -26,7 +26,7 @@ first-spot-requires : tie.Need-first-spot-requires Inv-loop μ-loop
 first-spot-requires c κs = search needs
 
 loop-holds : tie.Need-loop-holds Inv-loop μ-loop
-loop-holds c = (rw (c .first-spot .ensures) (ahead-start _ _ _), omega arith, record { worst = omega arith; incoming = omega arith; outgoing = omega arith; incoming-even = refl; outgoing-even = refl })
+loop-holds c = (rw (c .first-spot .ensures) (ahead-start _ _ _), omega arith, record { worst = omega arith; incoming = omega arith; outgoing = omega arith; even = record { incoming = refl; outgoing = refl } })
 
 returns : tie.Need-returns Inv-loop μ-loop
 returns c =
