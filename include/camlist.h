@@ -1,5 +1,6 @@
 /*
- * The crate list engine for hosts in C and C++. Lists, replies, packing, status and refusals are those of document 01, "The crate list engine".
+ * The crate list engine for hosts in C and C++. Lists, replies, packing, status and refusals are those of document 01, "The crate list engine",
+ * with enhanced blocks and the list sequencer (document 02, E1).
  * Link libhost.a, which `rt staticlib host` makes for x86-64 Linux; every function that is declared and not defined here is proved.
  *
  * Which call. camlist_admit says whether a list is well formed and what it can need. A host that drives a crate calls camlist_start, makes the
@@ -7,7 +8,7 @@
  * time (an adapter's FIFO) gives them to camlist_steps, which goes on from a record as camlist_step does. camlist_run is start and all replies in
  * one call: it begins at the list's start each time, and camlist_step goes on from the record in its answer.
  *
- * Cost. Every call reads the whole list and follows its walk anew: a step takes some 10,000 instructions for a short list and 0.9 million for one
+ * Cost. Every call reads the whole list and follows its walk anew: a step takes some 10,000 instructions for a short list and 0.6 million for one
  * of 4,000 fields. For many replies prefer camlist_steps or camlist_run, which read it once and take some 20 to 300 instructions a reply.
  *
  * Arguments. A slice is a pointer and its length in bytes; NULL is fine where the length is 0. Byte slices need no alignment, arrays of uint64_t
@@ -16,7 +17,8 @@
  * allocates, never blocks and always returns: no list, record or reply, however wrong, makes it do anything but refuse.
  *
  * Versions. The names below stand for symbols with the version in them: an object that was compiled with the header of another version does
- * not link. Name the sizes of arrays by their constants.
+ * not link. Name the sizes of arrays by their constants. Version 2: the operation wanted has a sixth number, "enhanced", so that the answers of
+ * camlist_start, camlist_step and camlist_steps are one number longer.
  */
 #ifndef CAMLIST_H
 #define CAMLIST_H
@@ -29,14 +31,14 @@
 extern "C" {
 #endif
 
-#define CAMLIST_VERSION 1
+#define CAMLIST_VERSION 2
 
-#define camlist_admit camlist_admit_v1
-#define camlist_start camlist_start_v1
-#define camlist_step camlist_step_v1
-#define camlist_steps camlist_steps_v1
-#define camlist_run camlist_run_v1
-#define camlist_code_name camlist_code_name_v1
+#define camlist_admit camlist_admit_v2
+#define camlist_start camlist_start_v2
+#define camlist_step camlist_step_v2
+#define camlist_steps camlist_steps_v2
+#define camlist_run camlist_run_v2
+#define camlist_code_name camlist_code_name_v2
 
 /* Every answer begins with these two. After a refusal the numbers behind them are 0, but for a refused run's record, which has ended. */
 #define CAMLIST_NUMBER 0 /* 0 not refused, else the refusal */
@@ -48,13 +50,16 @@ extern "C" {
 #define CAMLIST_ADMIT_OUTGOING 4 /* O, the outgoing bytes that a full run takes */
 #define CAMLIST_ADMIT_NUMBERS 5
 
-/* The numbers of the answers of camlist_start and camlist_step: the operation wanted next. All five are 0 once the run has ended. */
+/* The numbers of the answers of camlist_start and camlist_step: the operation wanted next. All six are 0 once the run has ended.
+   An enhanced operation is one word of an enhanced block, by enhanced messages. Enhanced with F 12 is the list sequencer: A 0 and 1 read, A 2 and 3
+   write, although F 12 else is control. */
 #define CAMLIST_CALL_CRATE 2
 #define CAMLIST_CALL_N 3 /* station */
 #define CAMLIST_CALL_A 4 /* subaddress */
-#define CAMLIST_CALL_F 5 /* function: with its 8-bit set control, else a write where its 16-bit is set, else a read */
+#define CAMLIST_CALL_F 5 /* function: with its 8-bit set control, the sequencer aside; else a write where its 16-bit is set, else a read */
 #define CAMLIST_CALL_DATA 6
-#define CAMLIST_CALL_NUMBERS 7
+#define CAMLIST_CALL_ENHANCED 7 /* 1 enhanced, else 0 */
+#define CAMLIST_CALL_NUMBERS 8
 
 /* The numbers of camlist_steps's answer. */
 #define CAMLIST_STEPS_TAKEN 2 /* replies taken; those past the run's end are not */
@@ -63,7 +68,8 @@ extern "C" {
 #define CAMLIST_STEPS_A 5
 #define CAMLIST_STEPS_F 6
 #define CAMLIST_STEPS_DATA 7
-#define CAMLIST_STEPS_NUMBERS 8
+#define CAMLIST_STEPS_ENHANCED 8
+#define CAMLIST_STEPS_NUMBERS 9
 
 /* The numbers of camlist_run's answer. */
 #define CAMLIST_RUN_TAKEN 2  /* as of camlist_steps */
@@ -94,9 +100,10 @@ extern "C" {
 #define CAMLIST_REFUSED_TAG 3           /* unknown tag, or a second first field */
 #define CAMLIST_REFUSED_LENGTH 4        /* length wrong for its tag */
 #define CAMLIST_REFUSED_ZERO_BIT 6      /* a zero bit of a CAMAC word is set */
-#define CAMLIST_REFUSED_ADDRESS 7       /* crate not 1 to 62, N not 1 to 23 or 30, or a scan at N 30 */
-#define CAMLIST_REFUSED_MODE 8          /* transfer mode 2; length not the mode's; block with control; inline not write */
-#define CAMLIST_REFUSED_COUNT_OR_DATA 9 /* a block's count, a scan past its positions, or inline data above the word size */
+#define CAMLIST_REFUSED_ADDRESS 7       /* crate not 1 to 62, N not 1 to 23 or 30, or a scan (the sequencer is none) at N 30 */
+#define CAMLIST_REFUSED_MODE 8          /* length not the mode's; block with control; inline not write; enhanced: control, a repeat write, or
+                                           a sequencer other than N 30, F 12, A 0 to 3 */
+#define CAMLIST_REFUSED_COUNT_OR_DATA 9 /* the count of a block, enhanced or not; a scan past its positions; or inline data above the word size */
 #define CAMLIST_REFUSED_JUMP 10         /* a jump's target is not an instruction */
 #define CAMLIST_REFUSED_WALK 11         /* the walk repeats or passes the last field */
 #define CAMLIST_REFUSED_INCOMING 20     /* incoming buffer shorter than B */
@@ -194,7 +201,7 @@ static inline const char *camlist_refusal_text(uint64_t number)
     case CAMLIST_REFUSED_TOO_MANY: return "more than 4,096 instructions";
     case CAMLIST_REFUSED_ZERO_BIT: return "a bit that must be zero is set";
     case CAMLIST_REFUSED_ADDRESS: return "no such crate or station";
-    case CAMLIST_REFUSED_MODE: return "transfer mode does not go with its length or function";
+    case CAMLIST_REFUSED_MODE: return "transfer mode does not go with its length, Q-mode, address or function";
     case CAMLIST_REFUSED_COUNT_OR_DATA: return "wrong word count or inline data";
     case CAMLIST_REFUSED_JUMP: return "jump to no instruction";
     case CAMLIST_REFUSED_WALK: return "the list comes to no halt";
@@ -276,12 +283,31 @@ static inline int camlist_put_single(camlist_bytes *list, unsigned crate, unsign
     return camlist_put_camac(list, 4, 0, crate, n, a, f, options, 0, 1);
 }
 
-/* A block of words: up to 65,536 of 16 bits, 32,768 of 24. */
-static inline int camlist_put_block(camlist_bytes *list, unsigned crate, unsigned n, unsigned a, unsigned f, unsigned options, uint32_t words)
+/* For the functions below: a block in transfer mode 1 or 2. */
+static inline int camlist_put_words(camlist_bytes *list, unsigned mode, unsigned crate, unsigned n, unsigned a, unsigned f, unsigned options,
+                                    uint32_t words, int is_right)
 {
     uint32_t halfwords = options & CAMLIST_16_BIT ? words : 2u * words;
 
-    return camlist_put_camac(list, 8, 1, crate, n, a, f, options, 0u - halfwords, words <= 65536u);
+    return camlist_put_camac(list, 8, mode, crate, n, a, f, options, 0u - halfwords, is_right && words <= 65536u);
+}
+
+/* A block of words: up to 65,536 of 16 bits, 32,768 of 24. */
+static inline int camlist_put_block(camlist_bytes *list, unsigned crate, unsigned n, unsigned a, unsigned f, unsigned options, uint32_t words)
+{
+    return camlist_put_words(list, 1, crate, n, a, f, options, words, 1);
+}
+
+/* The same as an enhanced block: stop, ignore, or repeat for reads. */
+static inline int camlist_put_enhanced(camlist_bytes *list, unsigned crate, unsigned n, unsigned a, unsigned f, unsigned options, uint32_t words)
+{
+    return camlist_put_words(list, 2, crate, n, a, f, options, words, 1);
+}
+
+/* Words by one of the list sequencer's lists: 0 and 1 read, 2 and 3 write. Of the options, word size and AD count; its Q-mode is its own. */
+static inline int camlist_put_sequencer(camlist_bytes *list, unsigned crate, unsigned number, unsigned options, uint32_t words)
+{
+    return camlist_put_words(list, 2, crate, 30, number, 12, 3u << 3 | options, words, number < 4);
 }
 
 /* A write whose data stands in the list. */

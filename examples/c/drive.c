@@ -11,10 +11,12 @@
 #include "camlist.h"
 
 #define CRATE 2
-#define ADC 5 /* a station: A 0 control, A 1 result, A 2 thresholds */
+#define ADC 5        /* a station: A 0 control, A 1 result, A 2 thresholds */
+#define SEQUENCER 30 /* the list sequencer's station */
 #define TRY_LIMIT 4
 #define SCALERS 5
-#define FIRST 6 /* replies taken by steps, the second time */
+#define LISTED 2 /* words that the sequencer's list 0 reads */
+#define FIRST 6  /* replies taken by steps, the second time */
 
 /* A run: what a host keeps between two calls. */
 struct run {
@@ -33,16 +35,19 @@ static void put_list(void)
     camlist_put_inline(&list, CRATE, ADC, 0, 16, CAMLIST_STOP | CAMLIST_16_BIT, 1);    /* 0: start a conversion */
     camlist_put_single(&list, CRATE, ADC, 1, 2, CAMLIST_REPEAT);                       /* 1: its result, 24 bits */
     camlist_put_block(&list, CRATE, 8, 0, 0, CAMLIST_SCAN | CAMLIST_16_BIT, SCALERS);  /* 2: scalers, wherever they stand */
-    camlist_put_block(&list, CRATE, ADC, 2, 17, CAMLIST_STOP | CAMLIST_16_BIT, 2);     /* 3: thresholds */
+    camlist_put_enhanced(&list, CRATE, ADC, 2, 17, CAMLIST_STOP | CAMLIST_16_BIT, 2);  /* 3: thresholds, an enhanced block */
     camlist_put_single(&list, CRATE, ADC, 0, 26, CAMLIST_STOP | CAMLIST_16_BIT);       /* 4: enable, no data */
-    camlist_put_literal(&list, 0xCAFEF00Du);                                           /* 5: end of the event */
-    camlist_put_halt(&list);                                                           /* 6 */
+    camlist_put_sequencer(&list, CRATE, 0, CAMLIST_16_BIT, LISTED);                    /* 5: list 0 of the sequencer */
+    camlist_put_literal(&list, 0xCAFEF00Du);                                           /* 6: end of the event */
+    camlist_put_halt(&list);                                                           /* 7 */
 }
 
-/* The crate: an ADC that is busy twice after its start, a module with two scalers at station 8 and one with three at station 10. */
+/* The crate: an ADC that is busy twice after its start, a module with two scalers at station 8 and one with three at station 10, and a list
+   sequencer. */
 static void make_operation(uint64_t n, uint64_t a, uint64_t f)
 {
     static int busy;
+    static uint32_t listed;
     int is_scaler = (n == 8 && a < 2) || (n == 10 && a < 3);
 
     if (n == ADC && f == 16) {
@@ -53,6 +58,8 @@ static void make_operation(uint64_t n, uint64_t a, uint64_t f)
         camlist_put_answer(&replies, CAMLIST_X, 0);
     } else if (n == ADC) {
         camlist_put_answer(&replies, CAMLIST_Q | CAMLIST_X, a == 1 ? 0x012345 : 0);
+    } else if (n == SEQUENCER) {
+        camlist_put_answer(&replies, CAMLIST_Q | CAMLIST_X, 0x0A00 + ++listed);
     } else if (is_scaler) {
         camlist_put_answer(&replies, CAMLIST_Q | CAMLIST_X, (uint32_t)(100 * n + a));
     } else {
@@ -104,9 +111,10 @@ static void drive(struct run *run)
     while (answer[CAMLIST_NUMBER] == CAMLIST_NOT_REFUSED && !run->record[CAMLIST_RECORD_ENDED] && !replies.failed) {
         const uint8_t *reply = replies.bytes + replies.length;
         make_operation(answer[CAMLIST_CALL_N], answer[CAMLIST_CALL_A], answer[CAMLIST_CALL_F]);
-        printf("%3" PRIu64 ": N %2" PRIu64 " A %" PRIu64 " F %2" PRIu64 " data %06" PRIX64 ", reply%s%s %02X%02X%02X\n",
+        printf("%3" PRIu64 ": N %2" PRIu64 " A %" PRIu64 " F %2" PRIu64 " data %06" PRIX64 ", reply%s%s %02X%02X%02X%s\n",
                run->record[CAMLIST_RECORD_OPERATIONS] + 1, answer[CAMLIST_CALL_N], answer[CAMLIST_CALL_A], answer[CAMLIST_CALL_F],
-               answer[CAMLIST_CALL_DATA], reply[1] & CAMLIST_Q ? " Q" : "  ", reply[1] & CAMLIST_X ? " X" : "  ", reply[6], reply[5], reply[4]);
+               answer[CAMLIST_CALL_DATA], reply[1] & CAMLIST_Q ? " Q" : "  ", reply[1] & CAMLIST_X ? " X" : "  ", reply[6], reply[5], reply[4],
+               answer[CAMLIST_CALL_ENHANCED] ? ", enhanced" : "");
         step(run, reply, answer);
     }
     print_record(run->record);

@@ -12,7 +12,8 @@ const MOST_BYTES: usize = 4_096;
 fn main() {
     let folder = PathBuf::from(env::args().nth(1).expect("a folder"));
     fs::create_dir_all(&folder).expect("a folder that can be made");
-    let known = paper::document_01().into_iter().chain(paper::manual());
+    let papers = [paper::document_01(), paper::document_02(), paper::manual()];
+    let known = papers.into_iter().flatten();
     let known = known.map(|known| (known.list, known.row));
     let random = (0..RANDOM_CASES).map(|number| case(1, number));
     let random = random.map(|case| (case.list, case.row));

@@ -4,7 +4,7 @@ use std::path::{Path, PathBuf};
 use std::{env, fs};
 
 /// A symbol of the version that this crate is written for.
-const SYMBOL: &[u8] = b"camlist_steps_v1";
+const SYMBOL: &[u8] = b"camlist_steps_v2";
 
 fn main() {
     let manifest = env::var_os("CARGO_MANIFEST_DIR").expect("cargo says where the crate is");

@@ -1,18 +1,19 @@
 -- The room of a stay is kept by words and waits: marks behind j and then k words are those behind j + k, and a scan that can do k words has not
 -- left behind them, unless they were its last.
-use Prim.Native.Nat.{ℕ, zero, suc, _+_, _-_, _*_, _%_, _^_, _≤_, _<_}
+use Prim.Native.Nat.{ℕ, zero, suc, _+_, _-_, _*_, _/_, _%_, _^_, _≤_, _<_}
 use mathlib.Core.Path.{_≡_, refl, sym, ap, _∙_, subst}
 use mathlib.Core.Bool.{Bool, true, false, false≢true}
 use mathlib.Core.List.{List}
 use native.Mathlib.Omega.{arith}
-use borrow.Author.Tests.{ltb-true, ltb-false}
-use lib.Bits.{bitAnd}
+use borrow.Author.Tests.{eq-eqb, eqb-true, ltb-true, ltb-false}
+use lib.Bits.{bitAnd, and-shr, and-mod, and-zero-r}
 use lib.Dec.{eqb, ltb}
 use lib.ListN.{length}
+use Rattle.base.proofs.Bools.{and-right}
 use Rattle.base.proofs.Tests.{on}
 use Rattle.qmodes.specs.Modes.{triesAfter}
-use Rattle.camac.specs.Words.{qmodeIn, adIn, commandIn}
-use Rattle.camac.proofs.BitLaws.{command-qmode, command-direction, command-wide, command-ad}
+use Rattle.camac.specs.Words.{modeIn, qmodeBits, qmodeNumbered, isSequencerIn, qmodeIn, adIn, commandIn}
+use Rattle.camac.proofs.BitLaws.{command-qmode, direction-second, command-wide, command-ad}
 use Rattle.qmodes.specs.model.Answers.{wordFlags, canWait, wordsAhead, placeAfterWords, placeAfterWait}
 use Rattle.qmodes.specs.declared.modes.QMode.{QMode}
 use Rattle.qmodes.specs.declared.modes.QMode.the-variants.{Stop, Ignore, Repeat, Scan}
@@ -30,7 +31,7 @@ use Rattle.row.proofs.WordLaws.{words-length, words-none, words-more}
 
 -- Rules ------------------------------------------------------------------------------------------------------------------
 
-pub rules-mask : (first : ℕ) → wordFlags (qmodeIn first) (adIn first) ≡ rulesIn first .word
+rules-mask : (first : ℕ) → wordFlags (qmodeIn first) (adIn first) ≡ rulesIn first .word
 unfolding rulesIn rulesOf
 rules-mask first = rw (command-qmode first 0, command-ad first 0)
 
@@ -38,14 +39,36 @@ pub rules-in : (first second : ℕ) → rulesOf (commandIn first second) ≡ rul
 unfolding rulesIn rulesOf
 rules-in first second = rw (
   command-qmode first second,
-  command-direction first second,
+  direction-second first second,
   command-wide first second,
   command-ad first second,
   command-qmode first 0,
-  command-direction first 0,
   command-wide first 0,
   command-ad first 0,
 )
+
+stricter : (f : ℕ) → bitAnd f 0x33 ≡ 3 → bitAnd f 0x32 ≡ 2
+stricter f e =
+    let scan : bitAnd f 0x33 / 2 ≡ bitAnd (f / 2) 0x19 = and-shr f 0x33 1 in
+    let ignored : bitAnd f 0x32 / 2 ≡ bitAnd (f / 2) 0x19 = and-shr f 0x32 1 in
+    let even : bitAnd f 0x32 % 2 ≡ 0 = and-mod f 0x32 1 ∙ and-zero-r (f % 2) in
+    omega arith
+
+-- a scan's word would be one in ignore
+word-ignored : (ad : Bool) (f : ℕ) → eqb (bitAnd f (wordFlags Scan ad)) (wordFlags Scan ad % 4) ≡ true
+    → eqb (bitAnd f (wordFlags Ignore ad)) (wordFlags Ignore ad % 4) ≡ true
+word-ignored true f e = eq-eqb (bitAnd f 0) 0 (and-zero-r f)
+word-ignored false f e = eq-eqb (bitAnd f 0x32) 2 (stricter f (eqb-true (bitAnd f 0x33) 3 e))
+
+-- so that a word by the number of the Q-mode is one, in sequencer mode too
+pub word-numbered : (first f m : ℕ) → m ≡ wordFlags (qmodeNumbered (qmodeBits first)) (adIn first) → eqb (bitAnd f m) (m % 4) ≡ true
+    → eqb (bitAnd f (rulesIn first .word)) (rulesIn first .word % 4) ≡ true
+word-numbered first f m e h =
+    subst (λ (w : ℕ). eqb (bitAnd f w) (w % 4) ≡ true) (rules-mask first)
+    (on (isSequencerIn first)
+    (λ s. let q : qmodeBits first ≡ 3 = eqb-true (qmodeBits first) 3 (and-right (eqb (modeIn first) 2) _ s) in
+    rw s (word-ignored (adIn first) f (rw (e, q) at h)))
+    (λ s. rw s (rw e at h)))
 
 -- by other names
 pub passed-as : {rules other : Rules} {limit answers : ℕ} {row b x : List ℕ} {s t : Stay} → rules ≡ other → Passed rules limit row answers s b t x

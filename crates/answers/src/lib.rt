@@ -10,11 +10,10 @@ use row::read_word;
 use row::read_words;
 ghost use mathlib.Core.Path.{_≡_};
 ghost use mathlib.Core.Bool.{true, false};
-ghost use Prim.Native.Nat.{ℕ, _+_, _*_, _%_, _^_, _<_, _≤_};
+ghost use Prim.Native.Nat.{_+_, _*_, _%_, _^_, _<_, _≤_};
 ghost use lib.Bits.{bitAnd};
 ghost use lib.Dec.{eqb};
 ghost use lib.ListN.{length};
-ghost use Rattle.camac.specs.Words.{commandIn, directionOf};
 ghost use Rattle.qmodes.specs.model.Answers.{wordsAhead};
 ghost use Rattle.camac.specs.model.Bits.{Passes};
 ghost use Rattle.packing.specs.Packing.{markAfterWords};
@@ -42,29 +41,16 @@ pub struct Stay {
     pub note: Note,
 }
 
-// Where the words go or come from, by the first longword.
-fn direction_in(first: u32) -> Direction
-    requires { ⌜ Passes first ⌝ }
-    ensures { λ r. ⌜ ((second : ℕ) → r ≡ directionOf (commandIn first second .transfer)) ⌝ }
-{
-    if camac::reads(first) {
-        return Direction::Incoming;
-    }
-    if camac::writes(first) {
-        return Direction::Outgoing;
-    }
-    Direction::Neither
-}
-
 fn rules_in(first: u32) -> Rules
     requires { ⌜ Passes first ⌝ }
     ensures { λ r. ⌜ r ≡ rulesIn first ⌝ }
 {
-    let q = camac::qmode_in(first);
+    let q = camac::passed_qmode(first);
+    let direction = camac::direction_in(first);
     let ad = camac::has_ad(first);
     Rules {
         q: q,
-        direction: direction_in(first),
+        direction: direction,
         wide: camac::is_wide(first),
         word: qmodes::word_flags(q, ad),
         ad: ad,
@@ -291,7 +277,8 @@ fn visit_on(
     here
 }
 
-// Whether the answer here is the last word of its instruction.
+// Whether the answer here is the last word of its instruction, by the Q-mode's number. A list sequencer, whose number is a scan's, is asked more than
+// its own rules do; what this leaves is judged by them behind it.
 fn is_last(first: u32, here: Stay, row: &[u8], answers: usize) -> bool
     requires { ⌜ answers * 8 ≤ length (now row) ⌝ }
     ensures { λ b. ⌜ (b ≡ true → (here .left ≡ 1) × Words (rulesIn first) (now (row .entry)) answers here 1) ⌝ }
@@ -302,7 +289,7 @@ fn is_last(first: u32, here: Stay, row: &[u8], answers: usize) -> bool
     if answers <= here.taken {
         return false;
     }
-    let mask = qmodes::word_flags(camac::qmode_in(first), camac::has_ad(first));
+    let mask = qmodes::word_flags(camac::numbered_qmode(first), camac::has_ad(first));
     is_word_at(row, here.taken, mask)
 }
 

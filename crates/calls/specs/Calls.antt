@@ -7,10 +7,10 @@ use mathlib.Core.Option.{Option, none, some}
 use lib.Dec.{leb, eqb}
 use lib.ListN.{length, take, drop}
 use Rattle.base.specs.Checks.{if_then_else_, allOf}
-use Rattle.camac.specs.Words.{addressOf, directionOf}
+use Rattle.camac.specs.Words.{addressOf, directionOf, isEnhanced}
 use Rattle.camac.specs.declared.words.Command.{Command}
 use Rattle.camac.specs.declared.words.Transfer.{Transfer}
-use Rattle.camac.specs.declared.words.Transfer.the-variants.{Single, Block, Inline}
+use Rattle.camac.specs.declared.words.Transfer.the-variants.{Single, Block, Enhanced, Inline}
 use Rattle.packing.specs.Packing.{wordAt}
 use Rattle.base.specs.declared.Refusal.{Refusal}
 use Rattle.listfile.specs.declared.field.Instruction.the-variants.{Camac, Jump, Literal, Halt}
@@ -54,9 +54,9 @@ recordNumbers r =
 
 -- The operation wanted next ----------------------------------------------------------------------------------------------
 
--- "after the end or a refusal all five are zero"
+-- "after the end or a refusal all five are zero", and E1's sixth
 abbrev pub noOperation : Operation
-noOperation = record { «crate_number» = 0; station = 0; subaddress = 0; function = 0; word = 0 }
+noOperation = record { «crate_number» = 0; station = 0; subaddress = 0; function = 0; word = 0; enhanced = false }
 
 -- "data, which is the outgoing word that a write takes from its mark on, or the inline word, else zero"
 abbrev pub outgoingWord : Direction → Bool → ℕ → List ℕ → ℕ
@@ -67,9 +67,10 @@ outgoingWord Neither wide mark outgoing = 0
 unfoldable pub wordWanted : Transfer → Bool → ℕ → List ℕ → ℕ
 wordWanted (Single q a) wide mark outgoing = outgoingWord (directionOf (Single q a)) wide mark outgoing
 wordWanted (Block q a n) wide mark outgoing = outgoingWord (directionOf (Block q a n)) wide mark outgoing
+wordWanted (Enhanced q a n) wide mark outgoing = outgoingWord (directionOf (Enhanced q a n)) wide mark outgoing
 wordWanted (Inline q a word) wide mark outgoing = word
 
--- "the operation wanted next: crate, N, A, F and data", of an instruction at a record's position
+-- "the operation wanted next: crate, N, A, F and data", of an instruction at a record's position; it "gains a sixth number" (E1)
 unfoldable pub operationOf : Command → Record → List ℕ → Operation
 operationOf c r outgoing = record {
   «crate_number» = addressOf (c .transfer) .«crate_number»;
@@ -77,6 +78,7 @@ operationOf c r outgoing = record {
   subaddress = r .position .subaddress;
   function = addressOf (c .transfer) .function;
   word = wordWanted (c .transfer) (c .wide) (r .marks .outgoing) outgoing;
+  enhanced = isEnhanced (c .transfer);
 }
 
 unfoldable pub wantedAt : List Visit → Record → List ℕ → Operation

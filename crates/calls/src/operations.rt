@@ -7,13 +7,14 @@ ghost use mathlib.Core.Path.{_≡_};
 ghost use Prim.Native.Nat.{_^_, _<_};
 ghost use Rattle.calls.specs.Calls.{noOperation, wordWanted, operationOf, outgoingWord};
 
-// The operation wanted next: crate, N, A, F and data; all zero where none is.
+// The operation wanted next: crate, N, A, F, data, and whether it is enhanced; all zero where none is.
 pub struct Operation {
     pub crate_number: u8,
     pub station: u8,
     pub subaddress: u8,
     pub function: u8,
     pub word: u32,
+    pub enhanced: bool,
 }
 
 pub fn no_operation() -> Operation
@@ -25,6 +26,7 @@ pub fn no_operation() -> Operation
         subaddress: 0,
         function: 0,
         word: 0,
+        enhanced: false,
     }
 }
 
@@ -48,6 +50,7 @@ fn word_wanted(t: Transfer, wide: bool, mark: usize, outgoing: &[u8]) -> u32
     match t {
         Transfer::Single(_, _) => outgoing_word(camac::direction_of(t), wide, mark, outgoing),
         Transfer::Block(_, _, _) => outgoing_word(camac::direction_of(t), wide, mark, outgoing),
+        Transfer::Enhanced(_, _, _) => outgoing_word(camac::direction_of(t), wide, mark, outgoing),
         Transfer::Inline(_, _, word) => word,
     }
 }
@@ -67,5 +70,6 @@ pub fn operation_of(c: Command, r: Record, outgoing: &[u8]) -> Operation
         subaddress: p.subaddress,
         function: a.function,
         word: word_wanted(t, c.wide, marks.outgoing, outgoing),
+        enhanced: camac::is_enhanced(t),
     }
 }

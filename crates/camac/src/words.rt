@@ -1,12 +1,19 @@
 // CAMAC words: the decode of an instruction's longwords, refusals 6 to 9.
 use crate::bits::has_ad;
+use crate::bits::is_scan_block;
+use crate::bits::is_sequencer;
 use crate::bits::is_wide;
 use crate::bits::mode_in;
+use crate::bits::start_in;
+use crate::bits::words_in;
 use qmodes::QMode;
 use qmodes::ScanPosition;
 use qmodes::is_scan;
 ghost use mathlib.Core.Path.{_≡_};
-ghost use Rattle.camac.specs.Words.{qmodeIn, addressIn, isControl, isWrite, halfwords, blockWords, transferIn, commandIn, qmodeOf, addressOf, wordsOf, directionBy, directionOf, positionOf, zeroBitSet, badAddress, badMode, badCount, aboveWord, badSecond, aboveP, camacFault, decodeOf};
+ghost use Prim.Native.Nat.{ℕ};
+ghost use lib.Dec.{eqb};
+ghost use Rattle.base.specs.Checks.{if_then_else_};
+ghost use Rattle.camac.specs.Words.{modeIn, qmodeBits, qmodeNumbered, qmodeIn, addressIn, isControl, isWrite, halfwords, blockWords, transferIn, commandIn, qmodeOf, addressOf, wordsOf, directionBy, enhancedDirection, directionOf, isEnhanced, positionOf, zeroBitSet, badAddress, isSequencerAt, badEnhanced, badMode, badCount, aboveWord, badSecond, aboveP, camacFault, decodeOf};
 ghost use lib.ListN.{length};
 
 pub struct Address {
@@ -16,11 +23,12 @@ pub struct Address {
     pub function: u8,
 }
 
-// A CAMAC instruction's transfer mode, which holds its Q-mode and its address; a block also its words wanted, an inline write
-// its data.
+// A CAMAC instruction's transfer mode, which holds its Q-mode and its address; a block, enhanced or not, also its words wanted, an inline
+// write its data. A list sequencer is an enhanced block in ignore.
 pub enum Transfer {
     Single(QMode, Address),
     Block(QMode, Address, u64),
+    Enhanced(QMode, Address, u64),
     Inline(QMode, Address, u32),
 }
 
@@ -44,6 +52,28 @@ pub enum Decoded {
     Refused(u8),
 }
 
+// The Q-mode by its number alone.
+pub fn numbered_qmode(first: u32) -> QMode
+    ensures { λ r. ⌜ r ≡ qmodeNumbered (qmodeBits first) ⌝ }
+{
+    match (first >> 3) % 4 {
+        0 => QMode::Stop,
+        1 => QMode::Ignore,
+        2 => QMode::Repeat,
+        _ => QMode::Scan,
+    }
+}
+
+// Q-mode 3: scan, or the list sequencer in transfer mode 2. The other numbers need not ask.
+fn third_qmode(first: u32) -> QMode
+    ensures { λ r. ⌜ r ≡ (if eqb (modeIn first) 2 then QMode.Ignore else QMode.Scan) ⌝ }
+{
+    if mode_in(first) == 2 {
+        return QMode::Ignore;
+    }
+    QMode::Scan
+}
+
 pub fn qmode_in(first: u32) -> QMode
     ensures { λ r. ⌜ r ≡ qmodeIn first ⌝ }
 {
@@ -51,7 +81,7 @@ pub fn qmode_in(first: u32) -> QMode
         0 => QMode::Stop,
         1 => QMode::Ignore,
         2 => QMode::Repeat,
-        _ => QMode::Scan,
+        _ => third_qmode(first),
     }
 }
 
@@ -103,7 +133,7 @@ fn transfer_in(mode: u32, q: QMode, a: Address, wide: bool, second: u32) -> Tran
     match mode {
         0 => Transfer::Single(q, a),
         1 => Transfer::Block(q, a, block_words(wide, second)),
-        2 => Transfer::Single(q, a),
+        2 => Transfer::Enhanced(q, a, block_words(wide, second)),
         _ => Transfer::Inline(q, a, second),
     }
 }
@@ -122,12 +152,26 @@ pub fn command_in(first: u32, second: u32) -> Command
     }
 }
 
+// The instruction of a single's first longword, whatever its second.
+pub fn single_in(first: u32) -> Command
+    requires { ⌜ modeIn first ≡ 0 ⌝ }
+    ensures { λ r. ⌜ ((second : ℕ) → r ≡ commandIn first second) ⌝ }
+{
+    let a = address_in(first);
+    Command {
+        transfer: Transfer::Single(numbered_qmode(first), a),
+        wide: is_wide(first),
+        ad: has_ad(first),
+    }
+}
+
 pub fn qmode_of(t: Transfer) -> QMode
     ensures { λ r. ⌜ r ≡ qmodeOf t ⌝ }
 {
     match t {
         Transfer::Single(q, _) => q,
         Transfer::Block(q, _, _) => q,
+        Transfer::Enhanced(q, _, _) => q,
         Transfer::Inline(q, _, _) => q,
     }
 }
@@ -138,6 +182,7 @@ pub fn address_of(t: Transfer) -> Address
     match t {
         Transfer::Single(_, a) => a,
         Transfer::Block(_, a, _) => a,
+        Transfer::Enhanced(_, a, _) => a,
         Transfer::Inline(_, a, _) => a,
     }
 }
@@ -149,6 +194,7 @@ pub fn words_of(t: Transfer) -> u64
     match t {
         Transfer::Single(_, _) => 1,
         Transfer::Block(_, _, n) => n,
+        Transfer::Enhanced(_, _, n) => n,
         Transfer::Inline(_, _, _) => 1,
     }
 }
@@ -165,13 +211,38 @@ fn direction_by(f: u8) -> Direction
     Direction::Incoming
 }
 
+// An enhanced block's: a list sequencer's is told by A.
+fn enhanced_direction(a: Address) -> Direction
+    ensures { λ r. ⌜ r ≡ enhancedDirection a ⌝ }
+{
+    if is_control(a.function) {
+        if a.subaddress < 2 {
+            return Direction::Incoming;
+        }
+        return Direction::Outgoing;
+    }
+    direction_by(a.function)
+}
+
 pub fn direction_of(t: Transfer) -> Direction
     ensures { λ r. ⌜ r ≡ directionOf t ⌝ }
 {
     match t {
         Transfer::Single(_, a) => direction_by(a.function),
         Transfer::Block(_, a, _) => direction_by(a.function),
+        Transfer::Enhanced(_, a, _) => enhanced_direction(a),
         Transfer::Inline(_, _, _) => Direction::Neither,
+    }
+}
+
+pub fn is_enhanced(t: Transfer) -> bool
+    ensures { λ r. ⌜ r ≡ isEnhanced t ⌝ }
+{
+    match t {
+        Transfer::Single(_, _) => false,
+        Transfer::Block(_, _, _) => false,
+        Transfer::Enhanced(_, _, _) => true,
+        Transfer::Inline(_, _, _) => false,
     }
 }
 
@@ -231,14 +302,42 @@ fn is_bad_address(first: u32) -> bool
     true
 }
 
+// Whether N, A and F are of one of the list sequencer's four instructions.
+fn is_sequencer_at(a: Address) -> bool
+    ensures { λ r. ⌜ r ≡ isSequencerAt a ⌝ }
+{
+    if a.station != 30 {
+        return false;
+    }
+    if a.function != 12 {
+        return false;
+    }
+    a.subaddress <= 3
+}
+
+fn is_bad_enhanced(first: u32) -> bool
+    ensures { λ r. ⌜ r ≡ badEnhanced first ⌝ }
+{
+    let a = address_in(first);
+    if is_sequencer(first) {
+        return !is_sequencer_at(a);
+    }
+    if is_control(a.function) {
+        return true;
+    }
+    if (first >> 3) % 4 == 2 {
+        return is_write(a.function);
+    }
+    false
+}
+
+// 8 of a field that is no single.
 fn is_bad_mode(length: usize, first: u32) -> bool
+    requires { ⌜ ¬ (modeIn first ≡ 0) ⌝ }
     ensures { λ r. ⌜ r ≡ badMode length first ⌝ }
 {
     let a = address_in(first);
     let mode = mode_in(first);
-    if mode == 0 {
-        return length != 4;
-    }
     if length != 8 {
         return true;
     }
@@ -248,7 +347,7 @@ fn is_bad_mode(length: usize, first: u32) -> bool
     if mode == 3 {
         return !is_write(a.function);
     }
-    true
+    is_bad_enhanced(first)
 }
 
 fn is_bad_count(wide: bool, second: u32) -> bool
@@ -276,27 +375,25 @@ fn is_above_word(wide: bool, second: u32) -> bool
     1 << 16 <= second
 }
 
+// 9 of a field that is no single, but for n above P.
 fn is_bad_second(first: u32, second: u32) -> bool
+    requires { ⌜ ¬ (modeIn first ≡ 0) ⌝ }
     ensures { λ r. ⌜ r ≡ badSecond first second ⌝ }
 {
     let wide = is_wide(first);
-    let mode = mode_in(first);
-    if mode == 1 {
-        return is_bad_count(wide, second);
-    }
-    if mode == 3 {
+    if mode_in(first) == 3 {
         return is_above_word(wide, second);
     }
-    false
+    is_bad_count(wide, second)
 }
 
-fn is_above_p(t: Transfer) -> bool
-    ensures { λ r. ⌜ r ≡ aboveP t ⌝ }
+fn is_above_p(first: u32, second: u32) -> bool
+    ensures { λ r. ⌜ r ≡ aboveP (commandIn first second .transfer) ⌝ }
 {
-    position_of(t).positions_left() < words_of(t)
+    start_in(first).positions_left() < words_in(first, second)
 }
 
-// Refusals 6 to 9 of a CAMAC field's body, 0 where it passes. A single's one word is never above P: a good address has a position left.
+// Refusals 6 to 9 of a CAMAC field's body, 0 where it passes. One word is never above P: every position has itself left.
 pub fn camac_fault(length: usize, first: u32, second: u32) -> u8
     ensures { λ r. ⌜ r ≡ camacFault length first second ⌝ }
 {
@@ -318,10 +415,8 @@ pub fn camac_fault(length: usize, first: u32, second: u32) -> u8
     if is_bad_second(first, second) {
         return 9;
     }
-    if is_scan(qmode_in(first)) {
-        let c = command_in(first, second);
-        let t = c.transfer;
-        if is_above_p(t) {
+    if is_scan_block(first) {
+        if is_above_p(first, second) {
             return 9;
         }
         return 0;

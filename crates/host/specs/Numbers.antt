@@ -11,7 +11,7 @@ use Rattle.base.specs.declared.Refusal.{Refusal}
 use Rattle.walk.specs.Admission.{Prepared, unfit, ready, prepare}
 use Rattle.reply.specs.Effect.{State, stateOf}
 use Rattle.reply.specs.declared.records.Record.{Record}
-use Rattle.calls.specs.Calls.{refusal, recordNumbers, noOperation, Called, Stepping, startOf, stepOf, stepsOf}
+use Rattle.calls.specs.Calls.{refusal, numberOf, recordNumbers, noOperation, Called, Stepping, startOf, stepOf, stepsOf}
 use Rattle.calls.specs.declared.operations.Operation.{Operation}
 use Rattle.calls.specs.declared.Ran.{Ran}
 
@@ -21,9 +21,9 @@ use Rattle.calls.specs.declared.Ran.{Ran}
 abbrev pub runNumbers : Ran → List ℕ
 runNumbers r = r .refusal .number ∷ r .refusal .place ∷ r .taken ∷ recordNumbers (r .run)
 
--- "the operation wanted next: crate, N, A, F and data"
+-- "the operation wanted next: crate, N, A, F and data"; "a sixth number, 1 if enhanced, else 0" (E1)
 abbrev pub wantedNumbers : Operation → List ℕ
-wantedNumbers o = o .«crate_number» ∷ o .station ∷ o .subaddress ∷ o .function ∷ o .word ∷ []
+wantedNumbers o = o .«crate_number» ∷ o .station ∷ o .subaddress ∷ o .function ∷ o .word ∷ numberOf (o .enhanced) ∷ []
 
 -- start and step: number, place, the operation wanted
 abbrev pub callNumbers : Refusal → Operation → List ℕ

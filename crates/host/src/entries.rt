@@ -12,7 +12,7 @@ ghost use Rattle.walk.specs.Admission.{admitOf, numbersOf};
 ghost use Rattle.host.specs.Numbers.{runNumbers, startByNumbers, stepByNumbers, stepsByNumbers};
 
 #[no_mangle]
-pub extern "C" fn camlist_admit_v1(
+pub extern "C" fn camlist_admit_v2(
     list: &[u8],
     incoming_len: u64,
     outgoing_len: u64,
@@ -24,7 +24,7 @@ pub extern "C" fn camlist_admit_v1(
 }
 
 #[no_mangle]
-pub extern "C" fn camlist_run_v1(
+pub extern "C" fn camlist_run_v2(
     list: &[u8],
     incoming: &mut [u8],
     outgoing: &[u8],
@@ -39,12 +39,12 @@ pub extern "C" fn camlist_run_v1(
 }
 
 #[no_mangle]
-pub extern "C" fn camlist_start_v1(
+pub extern "C" fn camlist_start_v2(
     list: &[u8],
     incoming: &mut [u8],
     outgoing: &[u8],
     record: &mut [u64; 13],
-    answer: &mut [u64; 7],
+    answer: &mut [u64; 8],
 )
     ensures answer { λ r. ⌜ now (answer .exit) ≡ startByNumbers (now (list .entry)) (now (incoming .entry)) (now (outgoing .entry)) .answer ⌝ }
     ensures record { λ r. ⌜ now («record» .exit) ≡ startByNumbers (now (list .entry)) (now (incoming .entry)) (now (outgoing .entry)) .run ⌝ }
@@ -57,13 +57,13 @@ pub extern "C" fn camlist_start_v1(
 }
 
 #[no_mangle]
-pub extern "C" fn camlist_step_v1(
+pub extern "C" fn camlist_step_v2(
     list: &[u8],
     record: &mut [u64; 13],
     incoming: &mut [u8],
     outgoing: &[u8],
     reply: &[u8],
-    answer: &mut [u64; 7],
+    answer: &mut [u64; 8],
 )
     ensures answer { λ r. ⌜ now (answer .exit) ≡ stepByNumbers (now (list .entry)) (now («record» .entry)) (now (incoming .entry)) (now (outgoing .entry)) (now (reply .entry)) .answer ⌝ }
     ensures record { λ r. ⌜ now («record» .exit) ≡ stepByNumbers (now (list .entry)) (now («record» .entry)) (now (incoming .entry)) (now (outgoing .entry)) (now (reply .entry)) .run ⌝ }
@@ -77,13 +77,13 @@ pub extern "C" fn camlist_step_v1(
 }
 
 #[no_mangle]
-pub extern "C" fn camlist_steps_v1(
+pub extern "C" fn camlist_steps_v2(
     list: &[u8],
     record: &mut [u64; 13],
     incoming: &mut [u8],
     outgoing: &[u8],
     replies: &[u8],
-    answer: &mut [u64; 8],
+    answer: &mut [u64; 9],
 )
     ensures answer { λ r. ⌜ now (answer .exit) ≡ stepsByNumbers (now (list .entry)) (now («record» .entry)) (now (incoming .entry)) (now (outgoing .entry)) (now (replies .entry)) .answer ⌝ }
     ensures record { λ r. ⌜ now («record» .exit) ≡ stepsByNumbers (now (list .entry)) (now («record» .entry)) (now (incoming .entry)) (now (outgoing .entry)) (now (replies .entry)) .run ⌝ }

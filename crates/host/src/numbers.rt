@@ -79,7 +79,7 @@ pub fn run_numbers(r: Ran) -> [u64; 16]
     ]
 }
 
-pub fn call_numbers(refusal: Refusal, wanted: Operation) -> [u64; 7]
+pub fn call_numbers(refusal: Refusal, wanted: Operation) -> [u64; 8]
     ensures { λ n. ⌜ n ≡ callNumbers refusal wanted ⌝ }
 {
     [
@@ -90,10 +90,11 @@ pub fn call_numbers(refusal: Refusal, wanted: Operation) -> [u64; 7]
         wanted.subaddress as u64,
         wanted.function as u64,
         wanted.word as u64,
+        number_of(wanted.enhanced),
     ]
 }
 
-pub fn steps_numbers(refusal: Refusal, taken: usize, wanted: Operation) -> [u64; 8]
+pub fn steps_numbers(refusal: Refusal, taken: usize, wanted: Operation) -> [u64; 9]
     ensures { λ n. ⌜ n ≡ stepsNumbers refusal taken wanted ⌝ }
 {
     [
@@ -105,6 +106,7 @@ pub fn steps_numbers(refusal: Refusal, taken: usize, wanted: Operation) -> [u64;
         wanted.subaddress as u64,
         wanted.function as u64,
         wanted.word as u64,
+        number_of(wanted.enhanced),
     ]
 }
 

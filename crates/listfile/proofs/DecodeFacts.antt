@@ -72,12 +72,12 @@ block-words true second h e =
     (omega arith, omega arith)
 
 transfer-words : (mode : ℕ) (q : QMode) (a : Address) (wide : Bool) (second : ℕ) → second < 4294967296
-    → ((eqb mode 1 && badCount wide second) || (eqb mode 3 && aboveWord wide second)) ≡ false
+    → (((eqb mode 1 || eqb mode 2) && badCount wide second) || (eqb mode 3 && aboveWord wide second)) ≡ false
     → (1 ≤ wordsOf (transferIn mode q a wide second)) × (wordsOf (transferIn mode q a wide second) ≤ 65536)
 unfolding wordsOf transferIn
 transfer-words zero q a wide second h e = (omega arith, omega arith)
 transfer-words (suc zero) q a wide second h e = block-words wide second h (or-false-left _ _ e)
-transfer-words (suc (suc zero)) q a wide second h e = (omega arith, omega arith)
+transfer-words (suc (suc zero)) q a wide second h e = block-words wide second h (or-false-left _ _ e)
 transfer-words (suc (suc (suc k))) q a wide second h e = (omega arith, omega arith)
 
 -- a scan that passes 7 and 9

@@ -1,16 +1,16 @@
 -- What a field that has passed its checks shows of its parts: they lie in the list, and the longwords of a CAMAC field passed 6 to 9.
 use Prim.Native.Nat.{ℕ, zero, suc, _+_, _≤_, _<_}
 use mathlib.Core.Path.{_≡_, refl}
-use mathlib.Core.Bool.{false}
+use mathlib.Core.Bool.{true, false}
 use mathlib.Core.List.{List}
 use native.Mathlib.Omega.{arith}
 use borrow.Author.Tests.{eq-eqb, eqb-true, not-false}
 use lib.ListN.{length}
 use Rattle.base.specs.Bytes.{longAt}
-use Rattle.camac.specs.Words.{modeIn, commandIn, camacFault, decodedBy, decodeOf}
+use Rattle.camac.specs.Words.{isBlockIn, commandIn, camacFault, decodedBy, decodeOf}
 use Rattle.camac.specs.model.Bits.{Passes}
 use Rattle.camac.specs.declared.words.Command.{Command}
-use Rattle.camac.proofs.BitLaws.{passes-block}
+use Rattle.camac.proofs.BitLaws.{passes-long, block-long}
 use Rattle.listfile.specs.Fields.{bodyLength, tagAt, firstAt, secondAt, wrongLength, headFault, carriedBy, bodyOf, afterHead, fieldOf}
 use Rattle.listfile.specs.model.Table.{instructionAt, FieldPassed}
 use Rattle.listfile.specs.declared.field.FieldRead.the-variants.{Read}
@@ -49,12 +49,12 @@ module _ (list : List ℕ) (at : ℕ) (p : FieldPassed list at) where
     pub first-passes : (first : ℕ) → first ≡ firstAt list at → Passes first
     first-passes first e = record { len = bodyLength list at; second = secondAt list at; right = rw e camac-passes }
 
-    block-length : modeIn (firstAt list at) ≡ 1 → bodyLength list at ≡ 8
-    block-length m = passes-block (bodyLength list at) (firstAt list at) (secondAt list at) camac-passes m
+    block-length : isBlockIn (firstAt list at) ≡ true → bodyLength list at ≡ 8
+    block-length b = passes-long (bodyLength list at) (firstAt list at) (secondAt list at) camac-passes (block-long (firstAt list at) b)
 
-    pub block-inside : modeIn (firstAt list at) ≡ 1 → at + 11 ≤ length list
-    block-inside m = omega (arith, lies .inside, block-length m)
+    pub block-inside : isBlockIn (firstAt list at) ≡ true → at + 11 ≤ length list
+    block-inside b = omega (arith, lies .inside, block-length b)
 
-    pub block-second : modeIn (firstAt list at) ≡ 1 → secondAt list at ≡ longAt list (at + 7)
+    pub block-second : isBlockIn (firstAt list at) ≡ true → secondAt list at ≡ longAt list (at + 7)
     unfolding secondAt
-    block-second m = rw (eq-eqb (bodyLength list at) 8 (block-length m))
+    block-second b = rw (eq-eqb (bodyLength list at) 8 (block-length b))

@@ -99,6 +99,9 @@ pub fn instruction_at(list: &[u8], place: u16) -> Instruction
     match tag {
         Tag::CamacTag => {
             let first = base::long_at(list, at + 3);
+            if camac::mode_in(first) == 0 {
+                return Instruction::Camac(camac::single_in(first));
+            }
             let second = second_at(list, at);
             Instruction::Camac(camac::command_in(first, second))
         }

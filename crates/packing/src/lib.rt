@@ -41,10 +41,10 @@ pub fn mark_after_words(wide: bool, words: u64, mark: u64) -> u64
     requires { ⌜ (mark ≤ 2 ^ 62) × ((words ≤ 2 ^ 32) × (mark % 2 ≡ 0)) ⌝ }
     ensures { λ r. ⌜ r ≡ markAfterWords wide words mark ⌝ }
 {
-    if words == 0 {
-        return mark;
-    }
     if wide {
+        if words == 0 {
+            return mark;
+        }
         return mark + mark % 4 + words * 4;
     }
     mark + words * 2

@@ -7,7 +7,7 @@ ghost use Rattle.camac.specs.Words.{commandIn, wordsOf};
 ghost use Rattle.listfile.specs.Fields.{tagAt, firstAt, secondAt};
 ghost use Rattle.listfile.specs.model.Table.{FieldPassed};
 ghost use Rattle.listfile.specs.declared.field.Tag.the-variants.{CamacTag};
-ghost use Rattle.walk.specs.model.Sums.{SumsTo, afterCommand};
+ghost use Rattle.walk.specs.model.Sums.{SumsTo, addedBy, afterCommand};
 
 // W, B and O: the worst count, and the incoming and the outgoing mark after every word of the walk.
 pub struct Counts {
@@ -16,18 +16,12 @@ pub struct Counts {
     pub outgoing: u64,
 }
 
-// The sums after a CAMAC instruction with all its words.
-pub(crate) fn after_command(limit: u64, c: Command, s: Counts) -> Counts
-    requires { ⌜ (limit < 2 ^ 16) × ((wordsOf (c .transfer) ≤ 2 ^ 32) × SumsTo (2 ^ 62) s) ⌝ }
-    ensures { λ r. ⌜ r ≡ afterCommand limit c s ⌝ }
+// The sums after some words of a direction, with W as it is after them.
+fn added_by(d: Direction, wide: bool, words: u64, worst: u64, s: Counts) -> Counts
+    requires { ⌜ (words ≤ 2 ^ 32) × SumsTo (2 ^ 62) s ⌝ }
+    ensures { λ r. ⌜ r ≡ addedBy d wide words worst s ⌝ }
 {
-    let t = c.transfer;
-    let wide = c.wide;
-    let words = camac::words_of(t);
-    let worst = s.worst
-        + qmodes::worst_words(limit, camac::qmode_of(t), camac::position_of(t), words);
-    let direction = camac::direction_of(t);
-    match direction {
+    match d {
         Direction::Incoming => Counts {
             worst,
             incoming: packing::mark_after_words(wide, words, s.incoming),
@@ -46,6 +40,18 @@ pub(crate) fn after_command(limit: u64, c: Command, s: Counts) -> Counts
     }
 }
 
+// The sums after a CAMAC instruction with all its words.
+pub(crate) fn after_command(limit: u64, c: Command, s: Counts) -> Counts
+    requires { ⌜ (limit < 2 ^ 16) × ((wordsOf (c .transfer) ≤ 2 ^ 32) × SumsTo (2 ^ 62) s) ⌝ }
+    ensures { λ r. ⌜ r ≡ afterCommand limit c s ⌝ }
+{
+    let t = c.transfer;
+    let words = camac::words_of(t);
+    let worst = s.worst
+        + qmodes::worst_words(limit, camac::qmode_of(t), camac::position_of(t), words);
+    added_by(camac::direction_of(t), c.wide, words, worst, s)
+}
+
 // The same for the CAMAC field at a place, by the bits of its longwords.
 pub(crate) fn after_field(limit: u64, list: &[u8], at: usize, s: Counts) -> Counts
     requires { ⌜ (limit < 2 ^ 16) × (FieldPassed (now list) at × ((tagAt (now list) at ≡ CamacTag) × SumsTo (2 ^ 62) s)) ⌝ }
@@ -56,23 +62,5 @@ pub(crate) fn after_field(limit: u64, list: &[u8], at: usize, s: Counts) -> Coun
     let words = listfile::words_at(list, at, first);
     let worst = s.worst
         + qmodes::worst_words(limit, camac::qmode_in(first), camac::start_in(first), words);
-    if camac::reads(first) {
-        return Counts {
-            worst,
-            incoming: packing::mark_after_words(wide, words, s.incoming),
-            outgoing: s.outgoing,
-        };
-    }
-    if camac::writes(first) {
-        return Counts {
-            worst,
-            incoming: s.incoming,
-            outgoing: packing::mark_after_words(wide, words, s.outgoing),
-        };
-    }
-    Counts {
-        worst,
-        incoming: s.incoming,
-        outgoing: s.outgoing,
-    }
+    added_by(camac::direction_in(first), wide, words, worst, s)
 }

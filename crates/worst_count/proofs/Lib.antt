@@ -11,3 +11,4 @@ pub mod WorstReached
 pub mod Bound
 pub mod FitKept
 pub mod Cases
+pub mod Alike

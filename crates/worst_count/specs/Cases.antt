@@ -144,5 +144,5 @@ pub record Cases : Type 0 where
   pub k12 : admission (firstField 1 ++ jump 0) ≡ 11 ∷ 0 ∷ 0 ∷ 0 ∷ 0 ∷ []
   -- "admitted 1 2 0"; "op 1 1 1 0 0": crate 1, N 1, A 0, F 0; "end 0 00000080 1 2": code, status, operations, incoming mark
   pub camrun-admitted : numbersOf (admitOf runList 65536 0) ≡ 0 ∷ 0 ∷ 1 ∷ 2 ∷ 0 ∷ []
-  pub camrun-operation : startOf runList zeros [] .wanted ≡ record { «crate_number» = 1; station = 1; subaddress = 0; function = 0; word = 0 }
+  pub camrun-operation : startOf runList zeros [] .wanted ≡ record { «crate_number» = 1; station = 1; subaddress = 0; function = 0; word = 0; enhanced = false }
   pub camrun-end : RunEnds (runOf runList zeros [] runReplies)

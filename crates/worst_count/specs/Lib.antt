@@ -1,3 +1,4 @@
 pub mod WorstCount
 pub mod Slowest
 pub mod Cases
+pub mod Kinds

@@ -1,7 +1,7 @@
 //! What the benchmark runs: lists of every kind, with rows of answers that are taken whole.
 
 use camlist::ffi;
-use reference::cases::lists::{Draft, DraftField, BITS_16, BLOCK, INLINE};
+use reference::cases::lists::{Draft, DraftField, BITS_16, BLOCK, ENHANCED, INLINE};
 use reference::cases::rng::Rng;
 use reference::cases::rows::{self, Manner};
 use reference::walk::admission;
@@ -15,6 +15,9 @@ const STOP: u32 = 0;
 const IGNORE: u32 = 1 << 3;
 const REPEAT: u32 = 2 << 3;
 const SCAN: u32 = 3 << 3;
+
+/// The list sequencer of crate 3 with A 0, which reads; AD = 1.
+const SEQUENCER: u32 = 30 << 25 | 12 << 16 | 3 << 8 | ENHANCED | SCAN | 1;
 
 const MOST_REPLIES: usize = 65_536;
 
@@ -102,6 +105,13 @@ fn blocks_of_one_size() -> Vec<Workload> {
     // From N 1, A 0: even a scan that skips to station 23 has room for its 16 words.
     let scan_first = 1 << 25 | 3 << 8 | 1 | BLOCK | SCAN | READ;
     let scan = DraftField::camac(scan_first, Some(32_u32.wrapping_neg()));
+    let enhanced = |bits| {
+        DraftField::camac(
+            PLACE | ENHANCED | BITS_16 | bits,
+            Some(65_536_u32.wrapping_neg()),
+        )
+    };
+    let sequencer = DraftField::camac(SEQUENCER, Some(65_536_u32.wrapping_neg()));
     let drawn: &[Answers] = &[Clean, Flagged, Other];
     vec![
         workload("16-bit read, ignore", short(IGNORE | READ), drawn),
@@ -119,6 +129,12 @@ fn blocks_of_one_size() -> Vec<Workload> {
             vec![scan; 2_000],
             &[Clean, Flagged, Skips],
         ),
+        workload(
+            "16-bit enhanced read, ignore",
+            vec![enhanced(IGNORE | READ)],
+            drawn,
+        ),
+        workload("24-bit list sequencer, reading", vec![sequencer; 2], drawn),
     ]
 }
 

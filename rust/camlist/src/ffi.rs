@@ -13,11 +13,11 @@ pub const RUN_NUMBERS: usize = 16;
 /// mark, operations, status, note's buffer, offset and length.
 pub const RECORD_NUMBERS: usize = 13;
 
-/// Numbers of the answer of start and of step: number, place, crate, N, A, F, data.
-pub const CALL_NUMBERS: usize = 7;
+/// Numbers of the answer of start and of step: number, place, crate, N, A, F, data, enhanced.
+pub const CALL_NUMBERS: usize = 8;
 
-/// Numbers of the answer of steps: number, place, taken, crate, N, A, F, data.
-pub const STEPS_NUMBERS: usize = 8;
+/// Numbers of the answer of steps: number, place, taken, crate, N, A, F, data, enhanced.
+pub const STEPS_NUMBERS: usize = 9;
 
 /// Bytes of a code's name, blanks behind it included.
 pub const NAME_BYTES: usize = 16;
@@ -27,7 +27,7 @@ pub mod raw {
     use super::*;
 
     extern "C" {
-        pub fn camlist_admit_v1(
+        pub fn camlist_admit_v2(
             list: *const u8,
             list_len: usize,
             incoming_len: u64,
@@ -35,7 +35,7 @@ pub mod raw {
             answer: *mut [u64; ADMIT_NUMBERS],
         );
 
-        pub fn camlist_run_v1(
+        pub fn camlist_run_v2(
             list: *const u8,
             list_len: usize,
             incoming: *mut u8,
@@ -47,7 +47,7 @@ pub mod raw {
             answer: *mut [u64; RUN_NUMBERS],
         );
 
-        pub fn camlist_start_v1(
+        pub fn camlist_start_v2(
             list: *const u8,
             list_len: usize,
             incoming: *mut u8,
@@ -58,7 +58,7 @@ pub mod raw {
             answer: *mut [u64; CALL_NUMBERS],
         );
 
-        pub fn camlist_step_v1(
+        pub fn camlist_step_v2(
             list: *const u8,
             list_len: usize,
             record: *mut [u64; RECORD_NUMBERS],
@@ -71,7 +71,7 @@ pub mod raw {
             answer: *mut [u64; CALL_NUMBERS],
         );
 
-        pub fn camlist_steps_v1(
+        pub fn camlist_steps_v2(
             list: *const u8,
             list_len: usize,
             record: *mut [u64; RECORD_NUMBERS],
@@ -84,7 +84,7 @@ pub mod raw {
             answer: *mut [u64; STEPS_NUMBERS],
         );
 
-        pub fn camlist_code_name_v1(code: u64, name: *mut [u8; NAME_BYTES]);
+        pub fn camlist_code_name_v2(code: u64, name: *mut [u8; NAME_BYTES]);
     }
 }
 
@@ -93,7 +93,7 @@ pub fn admit(list: &[u8], incoming_len: u64, outgoing_len: u64) -> [u64; ADMIT_N
     let mut answer = [0; ADMIT_NUMBERS];
     // SAFETY: the slice and the array are valid for the call, and the array is ours alone.
     unsafe {
-        raw::camlist_admit_v1(
+        raw::camlist_admit_v2(
             list.as_ptr(),
             list.len(),
             incoming_len,
@@ -115,7 +115,7 @@ pub fn run(
     // SAFETY: the slices and the array are valid for the call; nothing overlaps `incoming`,
     // which is lent to us alone, nor the array, which is ours.
     unsafe {
-        raw::camlist_run_v1(
+        raw::camlist_run_v2(
             list.as_ptr(),
             list.len(),
             incoming.as_mut_ptr(),
@@ -140,7 +140,7 @@ pub fn start(
     let mut answer = [0; CALL_NUMBERS];
     // SAFETY: as in `run`; the record is lent to us alone.
     unsafe {
-        raw::camlist_start_v1(
+        raw::camlist_start_v2(
             list.as_ptr(),
             list.len(),
             incoming.as_mut_ptr(),
@@ -165,7 +165,7 @@ pub fn step(
     let mut answer = [0; CALL_NUMBERS];
     // SAFETY: as in `start`.
     unsafe {
-        raw::camlist_step_v1(
+        raw::camlist_step_v2(
             list.as_ptr(),
             list.len(),
             record,
@@ -192,7 +192,7 @@ pub fn steps(
     let mut answer = [0; STEPS_NUMBERS];
     // SAFETY: as in `start`.
     unsafe {
-        raw::camlist_steps_v1(
+        raw::camlist_steps_v2(
             list.as_ptr(),
             list.len(),
             record,
@@ -212,6 +212,6 @@ pub fn steps(
 pub fn code_name(code: u64) -> [u8; NAME_BYTES] {
     let mut name = [0; NAME_BYTES];
     // SAFETY: the array is valid for the call and ours alone.
-    unsafe { raw::camlist_code_name_v1(code, &mut name) };
+    unsafe { raw::camlist_code_name_v2(code, &mut name) };
     name
 }

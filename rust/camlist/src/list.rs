@@ -21,6 +21,7 @@ const BITS_16: u32 = 1 << 1;
 const ABORT_DISABLE: u32 = 1;
 const Q_MODE: u32 = 3 << 3;
 const BLOCK: u32 = 1 << 5;
+const ENHANCED: u32 = 2 << 5;
 const INLINE: u32 = 3 << 5;
 
 impl Camac {
@@ -41,6 +42,18 @@ impl Camac {
                 | part(subaddress, 4, 21)
                 | part(function, 5, 16),
         }
+    }
+
+    /// An instruction for one of the four lists of a crate's list sequencer, to be put by
+    /// [`List::enhanced`]: 0 and 1 read, 2 and 3 write. Its Q-mode is its own: Q is gathered
+    /// as in ignore.
+    ///
+    /// # Panics
+    ///
+    /// If the crate's number has more than 6 bits, or the list's number more than 2.
+    pub fn sequencer(crate_number: u32, number: u32) -> Camac {
+        assert!(number < 4, "the sequencer has no list {number}");
+        Camac::at(crate_number, 30, number, 12).with(Q_MODE, Q_MODE)
     }
 
     pub fn bits16(self) -> Camac {
@@ -132,6 +145,25 @@ impl List {
     /// So many words.
     pub fn block(self, camac: Camac, words: u32) -> List {
         self.double(camac.first | BLOCK, camac.count(words))
+    }
+
+    /// So many words as an enhanced block: stop, ignore, repeat for reads, or the
+    /// [list sequencer](Camac::sequencer).
+    ///
+    /// ```
+    /// use camlist::{admit, Camac, List};
+    ///
+    /// let adc = Camac::at(3, 6, 0, 2).bits16();
+    /// let list = List::new(3)
+    ///     .enhanced(adc.repeat(), 100)
+    ///     .enhanced(Camac::sequencer(3, 0).bits16(), 50)
+    ///     .enhanced(Camac::sequencer(3, 2).bits16(), 8)
+    ///     .halt();
+    /// let counts = admit(&list, 300, 16).unwrap();
+    /// assert_eq!((counts.operations, counts.incoming, counts.outgoing), (358, 300, 16));
+    /// ```
+    pub fn enhanced(self, camac: Camac, words: u32) -> List {
+        self.double(camac.first | ENHANCED, camac.count(words))
     }
 
     /// One write with its data in the list.

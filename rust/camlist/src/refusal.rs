@@ -63,11 +63,13 @@ pub enum Reason {
     TooMany = 5,
     /// A zero bit of a CAMAC word is set.
     ZeroBit = 6,
-    /// Crate not 1 to 62, N not 1 to 23 or 30, or a scan at N 30.
+    /// Crate not 1 to 62, N not 1 to 23 or 30, or a scan (the sequencer is none) at N 30.
     Address = 7,
-    /// Transfer mode 2; length not the mode's; block with control; inline not write.
+    /// Length not the mode's; block with control; inline not write; enhanced: control, a
+    /// repeat write, or a sequencer other than N 30, F 12, A 0 to 3.
     Mode = 8,
-    /// A block's count, a scan past its positions, or inline data above the word size.
+    /// The count of a block, enhanced or not; a scan past its positions; or inline data above
+    /// the word size.
     CountOrData = 9,
     /// A jump's target is not an instruction.
     Jump = 10,
@@ -122,7 +124,9 @@ impl fmt::Display for Reason {
             Reason::TooMany => "more than 4,096 instructions",
             Reason::ZeroBit => "a bit that must be zero is set",
             Reason::Address => "no such crate or station",
-            Reason::Mode => "transfer mode does not go with its length or function",
+            Reason::Mode => {
+                "transfer mode does not go with its length, Q-mode, address or function"
+            }
             Reason::CountOrData => "wrong word count or inline data",
             Reason::Jump => "jump to no instruction",
             Reason::Walk => "the list comes to no halt",

@@ -52,21 +52,24 @@ pub struct Operation {
     pub station: u8,
     /// A.
     pub subaddress: u8,
-    /// F.
+    /// F. The sequencer's is 12: its subaddress 0 or 1 reads, 2 or 3 writes.
     pub function: u8,
     /// What a write sends, else 0.
     pub data: u32,
+    /// By an enhanced message: a word of an enhanced block or of the list sequencer.
+    pub enhanced: bool,
 }
 
 impl Operation {
-    /// The operation of an answer's five numbers; a crate's number is never 0.
-    fn of([crate_number, n, a, f, data]: [u64; 5]) -> Option<Operation> {
+    /// The operation of an answer's six numbers; a crate's number is never 0.
+    fn of([crate_number, n, a, f, data, enhanced]: [u64; 6]) -> Option<Operation> {
         (crate_number != 0).then_some(Operation {
             crate_number: crate_number as u8,
             station: n as u8,
             subaddress: a as u8,
             function: f as u8,
             data: data as u32,
+            enhanced: enhanced == 1,
         })
     }
 }

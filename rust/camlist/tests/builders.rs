@@ -34,10 +34,27 @@ fn fields(put: impl FnOnce(List) -> List) -> Vec<u8> {
     put(head.clone()).bytes()[head.bytes().len()..].to_vec()
 }
 
+/// A CAMAC instruction with the word size and AD of a call's options.
+fn with_size_and_ad(camac: Camac, options: u32) -> Camac {
+    let camac = match options & 2 {
+        0 => camac,
+        _ => camac.bits16(),
+    };
+    match options & 1 {
+        0 => camac,
+        _ => camac.abort_disable(),
+    }
+}
+
+/// Whether options are in range: bit 2 of the longword is zero.
+fn are_options(options: u32) -> bool {
+    options < 32 && options & 4 == 0
+}
+
 fn camac_call(rng: &mut Rng) -> Call {
     let [crate_number, n, a, f, options] = [64, 32, 16, 32, 32].map(|bound| part(rng, bound));
-    let in_range = crate_number < 64 && n < 32 && a < 16 && f < 32 && options < 32;
-    let camac = (in_range && options & 4 == 0).then(|| {
+    let in_range = crate_number < 64 && n < 32 && a < 16 && f < 32;
+    let camac = (in_range && are_options(options)).then(|| {
         let camac = Camac::at(crate_number, n, a, f);
         let camac = match options >> 3 {
             0 => camac.stop(),
@@ -45,31 +62,16 @@ fn camac_call(rng: &mut Rng) -> Call {
             2 => camac.repeat(),
             _ => camac.scan(),
         };
-        let camac = if options & 2 == 2 {
-            camac.bits16()
-        } else {
-            camac
-        };
-        if options & 1 == 1 {
-            camac.abort_disable()
-        } else {
-            camac
-        }
+        with_size_and_ad(camac, options)
     });
     let parts = format!("{crate_number} {n} {a} {f} {options}");
-    match rng.below(3) {
+    match rng.below(4) {
         0 => Call {
             text: format!("single {parts}"),
             bytes: camac.map(|camac| fields(|list| list.single(camac))),
         },
-        1 => {
-            let words = part(rng, 65_537);
-            let camac = camac.filter(|_| words <= 65_536);
-            Call {
-                text: format!("block {parts} {words}"),
-                bytes: camac.map(|camac| fields(|list| list.block(camac, words))),
-            }
-        }
+        1 => words_call(rng, format!("block {parts}"), camac, List::block),
+        2 => words_call(rng, format!("enhanced {parts}"), camac, List::enhanced),
         _ => {
             let data = rng.number() as u32;
             Call {
@@ -77,6 +79,30 @@ fn camac_call(rng: &mut Rng) -> Call {
                 bytes: camac.map(|camac| fields(|list| list.inline(camac, data))),
             }
         }
+    }
+}
+
+/// The list sequencer, whatever Q-mode its options have.
+fn sequencer_call(rng: &mut Rng) -> Call {
+    let [crate_number, number, options] = [64, 4, 32].map(|bound| part(rng, bound));
+    let in_range = crate_number < 64 && number < 4 && are_options(options);
+    let camac = in_range.then(|| with_size_and_ad(Camac::sequencer(crate_number, number), options));
+    let text = format!("sequencer {crate_number} {number} {options}");
+    words_call(rng, text, camac, List::enhanced)
+}
+
+/// A call that ends in a number of words.
+fn words_call(
+    rng: &mut Rng,
+    text: String,
+    camac: Option<Camac>,
+    put: fn(List, Camac, u32) -> List,
+) -> Call {
+    let words = part(rng, 65_537);
+    let camac = camac.filter(|_| words <= 65_536);
+    Call {
+        text: format!("{text} {words}"),
+        bytes: camac.map(|camac| fields(|list| put(list, camac, words))),
     }
 }
 
@@ -109,6 +135,7 @@ fn list_call(rng: &mut Rng) -> Call {
             text: String::from("halt"),
             bytes: Some(fields(List::halt)),
         },
+        4 => sequencer_call(rng),
         _ => camac_call(rng),
     }
 }

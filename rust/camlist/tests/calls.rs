@@ -74,7 +74,7 @@ fn started_whole(given: &Given, row: &[u8], what: Arguments) {
 }
 
 /// Steps over a row cut at random into pieces, empty ones too.
-fn in_pieces(given: &Given, row: &[u8], rng: &mut Rng) -> After<8> {
+fn in_pieces(given: &Given, row: &[u8], rng: &mut Rng) -> After<{ ffi::STEPS_NUMBERS }> {
     let (mut record, mut incoming) = (given.record, given.incoming.to_vec());
     let (mut rest, mut taken) = (row, 0);
     loop {
@@ -101,7 +101,7 @@ fn in_pieces(given: &Given, row: &[u8], rng: &mut Rng) -> After<8> {
 }
 
 /// The same by one step for each reply; a row without one is left as it is.
-fn one_by_one(given: &Given, row: &[u8]) -> After<8> {
+fn one_by_one(given: &Given, row: &[u8]) -> After<{ ffi::STEPS_NUMBERS }> {
     let (mut record, mut incoming): (Record, _) = (given.record, given.incoming.to_vec());
     let mut answer = ffi::steps(given.list, &mut record, &mut incoming, given.outgoing, &[]);
     for reply in row.chunks(8) {
@@ -115,8 +115,9 @@ fn one_by_one(given: &Given, row: &[u8]) -> After<8> {
             given.outgoing,
             reply,
         );
-        let [crate_number, n, a, f, data] = operation;
-        answer = [number, place, answer[2] + 1, crate_number, n, a, f, data];
+        let head = [number, place, answer[2] + 1];
+        answer[..3].copy_from_slice(&head);
+        answer[3..].copy_from_slice(&operation);
     }
     After {
         answer,

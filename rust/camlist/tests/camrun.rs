@@ -80,7 +80,8 @@ fn random_cases() {
 
 #[test]
 fn the_papers_cases() {
-    let cases = paper::document_01().into_iter().chain(paper::manual());
+    let papers = [paper::document_01(), paper::document_02(), paper::manual()];
+    let cases = papers.into_iter().flatten();
     compare(
         "paper",
         cases.map(|known| [known.list, known.row, known.outgoing]),
@@ -130,16 +131,42 @@ fn missing_files() {
     assert_eq!(printed, "refused 2 0\n");
 }
 
+/// What camrun prints for the three files of a folder of examples.
+fn printed_for(example: &str) -> String {
+    let files = Path::new(env!("CARGO_MANIFEST_DIR"))
+        .join("../../examples")
+        .join(example);
+    let read = |name| fs::read(files.join(name)).expect("a file of the example");
+    let (lst, rep, out) = (read("run.lst"), read("run.rep"), read("run.out"));
+    Folder::new(example).camrun(&program(), [Some(&lst), Some(&rep), Some(&out)])
+}
+
 /// The worked case as examples/first has it.
 #[test]
 fn first_example() {
-    let files = Path::new(env!("CARGO_MANIFEST_DIR")).join("../../examples/first");
-    let read = |name| fs::read(files.join(name)).expect("a file of examples/first");
-    let (lst, rep, out) = (read("run.lst"), read("run.rep"), read("run.out"));
-    let folder = Folder::new("first");
-    let printed = folder.camrun(&program(), [Some(&lst), Some(&rep), Some(&out)]);
     assert_eq!(
-        printed,
+        printed_for("first"),
         "admitted 1 2 0\nop 1 1 1 0 0\nend 0 00000080 1 2\n"
     );
+}
+
+/// Enhanced blocks and the list sequencer as examples/enhanced has them, in crate 3: three
+/// 16-bit samples of N 6, F 2; two 24-bit words of the sequencer's list 0, the second with
+/// Q = 0; one 16-bit word in repeat, there on its second try; two 16-bit words for list 2.
+#[test]
+fn enhanced_example() {
+    let printed = [
+        "admitted 10 18 4",
+        "op 1 3 6 0 2",
+        "op 2 3 6 0 2",
+        "op 3 3 6 0 2",
+        "op 4 3 30 0 12",
+        "op 5 3 30 0 12",
+        "op 6 3 9 1 0",
+        "op 7 3 9 1 0",
+        "op 8 3 30 2 12",
+        "op 9 3 30 2 12",
+        "end 0 00010080 9 18",
+    ];
+    assert_eq!(printed_for("enhanced"), printed.join("\n") + "\n");
 }

@@ -4,7 +4,7 @@
 use camlist::ffi::{self, raw, ADMIT_NUMBERS, CALL_NUMBERS, RUN_NUMBERS};
 use camlist::ffi::{NAME_BYTES, RECORD_NUMBERS, STEPS_NUMBERS};
 use camlist::{Camac, Code, Reason, Record, Reply, Status};
-use reference::cases::by_hand::{list, ok, M15, M17};
+use reference::cases::by_hand::{double, list, ok, one, M15, M17};
 use reference::host::{admission_numbers, run_numbers, start_numbers, step_numbers, steps_numbers};
 use reference::names::CODE_NAMES;
 use std::collections::BTreeMap;
@@ -40,8 +40,8 @@ fn null_buffers() {
         let (none, no_bytes) = (null_mut(), null());
         // SAFETY: every length is 0 but that of the list, which is valid for the calls.
         unsafe {
-            raw::camlist_admit_v1(bytes, length, 0, 0, &mut admitted);
-            raw::camlist_run_v1(bytes, length, none, 0, no_bytes, 0, no_bytes, 0, &mut run);
+            raw::camlist_admit_v2(bytes, length, 0, 0, &mut admitted);
+            raw::camlist_run_v2(bytes, length, none, 0, no_bytes, 0, no_bytes, 0, &mut run);
         }
         assert_eq!(admitted, admission_numbers(&list, 0, 0));
         assert_eq!(run, run_numbers(&list, &mut [], &[], &[]));
@@ -49,7 +49,7 @@ fn null_buffers() {
             let answer = step_numbers(&list, &mut expected, &mut [], &[], &[]);
             // SAFETY: as above; the arrays are ours.
             unsafe {
-                raw::camlist_step_v1(
+                raw::camlist_step_v2(
                     bytes,
                     length,
                     &mut record,
@@ -66,7 +66,7 @@ fn null_buffers() {
             let answer = steps_numbers(&list, &mut expected, &mut [], &[], &[]);
             // SAFETY: as above.
             unsafe {
-                raw::camlist_steps_v1(
+                raw::camlist_steps_v2(
                     bytes,
                     length,
                     &mut record,
@@ -82,7 +82,7 @@ fn null_buffers() {
             assert_eq!((record, stepped), (expected, answer));
             // SAFETY: as above.
             unsafe {
-                raw::camlist_start_v1(
+                raw::camlist_start_v2(
                     bytes,
                     length,
                     none,
@@ -115,12 +115,12 @@ fn sizes_of_the_answers() {
     // SAFETY: list, buffers and arrays are valid for the calls, and ours.
     unsafe {
         let (buffer, none) = (incoming.as_mut_ptr(), null());
-        raw::camlist_admit_v1(bytes, length, 8, 0, &mut admitted[1]);
-        raw::camlist_run_v1(bytes, length, null_mut(), 0, none, 0, none, 0, &mut run[1]);
+        raw::camlist_admit_v2(bytes, length, 8, 0, &mut admitted[1]);
+        raw::camlist_run_v2(bytes, length, null_mut(), 0, none, 0, none, 0, &mut run[1]);
         let (record, answer) = (&mut records[1], &mut called[1]);
-        raw::camlist_start_v1(bytes, length, buffer, 8, none, 0, record, answer);
+        raw::camlist_start_v2(bytes, length, buffer, 8, none, 0, record, answer);
         let row = reply.as_ptr();
-        raw::camlist_steps_v1(
+        raw::camlist_steps_v2(
             bytes,
             length,
             record,
@@ -132,11 +132,11 @@ fn sizes_of_the_answers() {
             0,
             &mut stepped[1],
         );
-        assert_eq!(called, [[7; 7], [0, 0, 3, 6, 0, 2, 0], [7; 7]]);
-        assert_eq!(stepped, [[7; 8], [0, 0, 0, 3, 6, 0, 2, 0], [7; 8]]);
+        assert_eq!(called, [[7; 8], [0, 0, 3, 6, 0, 2, 0, 0], [7; 8]]);
+        assert_eq!(stepped, [[7; 9], [0, 0, 0, 3, 6, 0, 2, 0, 0], [7; 9]]);
         let (record, answer) = (&mut records[1], &mut called[1]);
-        raw::camlist_step_v1(bytes, length, record, buffer, 8, none, 0, row, 8, answer);
-        raw::camlist_code_name_v1(13, &mut name[1]);
+        raw::camlist_step_v2(bytes, length, record, buffer, 8, none, 0, row, 8, answer);
+        raw::camlist_code_name_v2(13, &mut name[1]);
     }
     assert_eq!(admitted, [[7; 5], [0, 0, 1, 8, 0], [7; 5]]);
     let mut refused = [0; RUN_NUMBERS];
@@ -144,7 +144,7 @@ fn sizes_of_the_answers() {
     assert_eq!(run, [[7; 16], refused, [7; 16]]);
     let ended = [1, 2, 0, 0, 0, 0, 8, 0, 1, 0x80, 0, 0, 2];
     assert_eq!(records, [[7; 13], ended, [7; 13]]);
-    assert_eq!(called, [[7; 7], [0; 7], [7; 7]]);
+    assert_eq!(called, [[7; 8], [0; 8], [7; 8]]);
     assert_eq!(name, [[7; 16], *b"NO SYNC         ", [7; 16]]);
     assert_eq!(incoming, [1, 0, 0, 0, 0x5A, 0x5A, 0, 0]);
 }
@@ -222,6 +222,46 @@ fn sizes_of_the_header() {
     ];
     let expected = expected.map(|(name, size)| (name.to_string(), size as u64));
     assert_eq!(sizes, BTreeMap::from(expected));
+}
+
+/// The names of the calls stand for symbols of the header's version.
+#[test]
+fn symbols_of_the_header() {
+    let version = constants("VERSION")[""];
+    let header = header();
+    for name in ["admit", "start", "step", "steps", "run", "code_name"] {
+        let define = format!("#define camlist_{name} camlist_{name}_v{version}\n");
+        assert!(header.contains(&define), "{define}");
+    }
+    assert_eq!(header.matches("#define camlist_").count(), 6);
+}
+
+/// The operation's numbers stand where the header says: a sequencer's write, whose six numbers
+/// all differ.
+#[test]
+fn operation_of_the_header() {
+    let list = one(&double(0x3C4C_035A, 0xFFFF_FFFF));
+    let (mut incoming, outgoing) = ([], [0x34, 0x12]);
+    let mut record = [0; RECORD_NUMBERS];
+    let started = ffi::start(&list, &mut incoming, &outgoing, &mut record);
+    let stepped = ffi::steps(&list, &mut record, &mut incoming, &outgoing, &[]);
+    let operation = [
+        ("CRATE", 3),
+        ("N", 30),
+        ("A", 2),
+        ("F", 12),
+        ("DATA", 0x1234),
+        ("ENHANCED", 1),
+    ];
+    for (prefix, answer) in [("CALL_", &started[..]), ("STEPS_", &stepped[..])] {
+        let constants = constants(prefix);
+        for (name, number) in operation {
+            let place = constants[name] as usize;
+            assert_eq!(answer[place], number, "{prefix}{name}");
+        }
+    }
+    assert_eq!(constants("CALL_").len(), 7);
+    assert_eq!(constants("STEPS_").len(), 8);
 }
 
 #[test]

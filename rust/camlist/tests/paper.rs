@@ -1,25 +1,32 @@
 //! The cases of documents 01 and 02 and the manual's examples, through the C interface.
 
-use camlist::ffi::{admit, run};
-use reference::cases::paper;
+use camlist::ffi::{admit, run, start, step};
+use reference::cases::paper::{self, Engine};
+
+const ENGINE: Engine = Engine {
+    admit,
+    run,
+    start,
+    step,
+};
 
 #[test]
 fn document_01() {
     for known in paper::document_01() {
-        known.check(admit, run);
+        known.check(&ENGINE);
     }
 }
 
 #[test]
 fn document_02() {
     for known in paper::document_02() {
-        known.check(admit, run);
+        known.check(&ENGINE);
     }
 }
 
 #[test]
 fn the_manual() {
     for known in paper::manual() {
-        known.check(admit, run);
+        known.check(&ENGINE);
     }
 }

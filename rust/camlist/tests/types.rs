@@ -3,7 +3,7 @@
 
 use camlist::{admit, ffi, run, Buffer, Camac, List, Operation, Record, Refusal, Reply, Run};
 use reference::cases::calls::call_case;
-use reference::cases::lists::{Draft, DraftField, BITS_16, BLOCK, INLINE};
+use reference::cases::lists::{Draft, DraftField, BITS_16, BLOCK, ENHANCED, INLINE};
 use reference::cases::rng::Rng;
 use reference::cases::rows;
 
@@ -18,10 +18,10 @@ fn refusal_numbers<Answer>(answer: &Result<Answer, Refusal>) -> [u64; 2] {
     }
 }
 
-/// The five numbers of an operation; zeros for none.
-fn operation_numbers(operation: Option<Operation>) -> [u64; 5] {
+/// The six numbers of an operation; zeros for none.
+fn operation_numbers(operation: Option<Operation>) -> [u64; 6] {
     let Some(operation) = operation else {
-        return [0; 5];
+        return [0; 6];
     };
     let Operation {
         crate_number,
@@ -29,10 +29,11 @@ fn operation_numbers(operation: Option<Operation>) -> [u64; 5] {
         subaddress,
         function,
         data,
+        enhanced,
     } = operation;
     let naf = [crate_number, station, subaddress, function].map(u64::from);
     let [crate_number, n, a, f] = naf;
-    [crate_number, n, a, f, u64::from(data)]
+    [crate_number, n, a, f, u64::from(data), u64::from(enhanced)]
 }
 
 #[test]
@@ -156,47 +157,76 @@ fn reply(bytes: [u8; 8]) -> Reply {
     reply
 }
 
+/// An instruction at crate, N, A and F with these low bits.
+fn camac_of([crate_number, n, a, f]: [u32; 4], low: u32) -> Camac {
+    let camac = Camac::at(crate_number, n, a, f);
+    let camac = match low >> 3 {
+        0 => camac.scan().stop(),
+        1 => camac.ignore(),
+        2 => camac.repeat(),
+        _ => camac.scan(),
+    };
+    let camac = match low & BITS_16 {
+        0 => camac.bits16().bits24(),
+        _ => camac.bits16(),
+    };
+    match low & 1 {
+        0 => camac,
+        _ => camac.abort_disable(),
+    }
+}
+
 /// Lists of every field, written by both.
 #[test]
 fn lists() {
     let mut rng = Rng::new(SEED);
     for _ in 0..CASES / 10 {
         let limit = rng.below(65_536) as u16;
-        let [crate_number, n, a, f] = [64, 32, 16, 32].map(|bound| rng.below(bound) as u32);
+        let parts = [64, 32, 16, 32].map(|bound| rng.below(bound) as u32);
+        let [crate_number, n, a, f] = parts;
         let low = rng.below(32) as u32 & !4;
         let first = n << 25 | a << 21 | f << 16 | crate_number << 8 | low;
-        let camac = Camac::at(crate_number, n, a, f);
-        let camac = match low >> 3 {
-            0 => camac.scan().stop(),
-            1 => camac.ignore(),
-            2 => camac.repeat(),
-            _ => camac.scan(),
-        };
-        let sixteen = low & BITS_16 != 0;
-        let camac = if sixteen {
-            camac.bits16()
-        } else {
-            camac.bits16().bits24()
-        };
-        let camac = if low & 1 == 1 {
-            camac.abort_disable()
-        } else {
-            camac
-        };
+        let camac = camac_of(parts, low);
         let (words, data) = (rng.below(40_000) as u32, rng.number() as u32);
+        let sixteen = low & BITS_16 != 0;
         let halfwords = if sixteen { words } else { 2 * words };
+        let count = Some(halfwords.wrapping_neg());
         let fields = vec![
             DraftField::camac(first, None),
-            DraftField::camac(first | BLOCK, Some(halfwords.wrapping_neg())),
+            DraftField::camac(first | BLOCK, count),
+            DraftField::camac(first | ENHANCED, count),
             DraftField::camac(first | INLINE, Some(data)),
             DraftField::jump(usize::from(limit)),
             DraftField::literal(data),
             DraftField::halt(),
         ];
         let list = List::new(limit).single(camac).block(camac, words);
-        let list = list.inline(camac, data).jump(limit).literal(data).halt();
+        let list = list.enhanced(camac, words).inline(camac, data);
+        let list = list.jump(limit).literal(data).halt();
         assert_eq!(list.bytes(), Draft::new(limit, fields).bytes());
     }
+}
+
+/// "N 30, F 12, A 0 or 1 reading and 2 or 3 writing", Q-mode 3 in transfer mode 2.
+#[test]
+fn sequencers() {
+    let firsts = [0x3C0C_0158, 0x3C2C_0158, 0x3C4C_0158, 0x3C6C_0158];
+    for (number, first) in (0..).zip(firsts) {
+        let sequencer = Camac::sequencer(1, number);
+        let short = sequencer.bits16().abort_disable();
+        let list = List::new(9).enhanced(sequencer, 5).enhanced(short, 5);
+        let fields = vec![
+            DraftField::camac(first, Some(0xFFFF_FFF6)),
+            DraftField::camac(first | 3, Some(0xFFFF_FFFB)),
+        ];
+        assert_eq!(list.bytes(), Draft::new(9, fields).bytes());
+    }
+}
+
+#[test]
+#[should_panic(expected = "the sequencer has no list 4")]
+fn a_list_that_the_sequencer_lacks() {
+    Camac::sequencer(1, 4);
 }
 
 #[test]

@@ -98,7 +98,7 @@ fn called(answer: &Answer, incoming: &[u8]) -> String {
     };
     numbers.extend(answer.record.numbers());
     let w = &answer.wanted;
-    numbers.extend([w.crate_number, w.n, w.a, w.f, w.data]);
+    numbers.extend([w.crate_number, w.n, w.a, w.f, w.data, w.enhanced.into()]);
     numbers.extend(incoming.iter().map(|&b| u64::from(b)));
     row(&numbers)
 }

@@ -35,21 +35,21 @@ impl RunAnswer {
     }
 }
 
-/// The record of a start; number, place, then the operation's five.
-pub fn start_numbers(list: &[u8], incoming: &mut [u8], outgoing: &[u8]) -> ([u64; 13], [u64; 7]) {
+/// The record of a start; number, place, then the operation's six.
+pub fn start_numbers(list: &[u8], incoming: &mut [u8], outgoing: &[u8]) -> ([u64; 13], [u64; 8]) {
     let answer = start(list, incoming, outgoing);
     let numbers = call_numbers(answer.refusal, &answer.wanted);
     (answer.record.numbers(), numbers)
 }
 
-/// Steps a record; number, place, then the operation's five.
+/// Steps a record; number, place, then the operation's six.
 pub fn step_numbers(
     list: &[u8],
     record: &mut [u64; 13],
     incoming: &mut [u8],
     outgoing: &[u8],
     reply: &[u8],
-) -> [u64; 7] {
+) -> [u64; 8] {
     let answer = step(list, &record_of(record), incoming, outgoing, reply);
     if answer.refusal.is_none() {
         *record = answer.record.numbers();
@@ -57,20 +57,24 @@ pub fn step_numbers(
     call_numbers(answer.refusal, &answer.wanted)
 }
 
-/// Steps a record over a row; number, place, taken, then the operation's five.
+/// Steps a record over a row; number, place, taken, then the operation's six.
 pub fn steps_numbers(
     list: &[u8],
     record: &mut [u64; 13],
     incoming: &mut [u8],
     outgoing: &[u8],
     row: &[u8],
-) -> [u64; 8] {
+) -> [u64; 9] {
     let answer = steps(list, &record_of(record), incoming, outgoing, row);
     if answer.refusal.is_none() {
         *record = answer.record.numbers();
     }
-    let [number, place, crate_number, n, a, f, data] = call_numbers(answer.refusal, &answer.wanted);
-    [number, place, answer.taken, crate_number, n, a, f, data]
+    let call = call_numbers(answer.refusal, &answer.wanted);
+    let mut numbers = [0; 9];
+    numbers[..2].copy_from_slice(&call[..2]);
+    numbers[2] = answer.taken;
+    numbers[3..].copy_from_slice(&call[2..]);
+    numbers
 }
 
 /// The record of some numbers; one that fits no list where the status is too wide. The
@@ -83,7 +87,7 @@ fn record_of(numbers: &[u64; 13]) -> Record {
     })
 }
 
-fn call_numbers(refusal: Option<Refusal>, wanted: &Operation) -> [u64; 7] {
+fn call_numbers(refusal: Option<Refusal>, wanted: &Operation) -> [u64; 8] {
     let (number, place) = refusal.map_or((0, 0), |refusal| {
         (u64::from(refusal.number), refusal.place as u64)
     });
@@ -93,6 +97,8 @@ fn call_numbers(refusal: Option<Refusal>, wanted: &Operation) -> [u64; 7] {
         a,
         f,
         data,
+        enhanced,
     } = *wanted;
-    [number, place, crate_number, n, a, f, data]
+    let enhanced = u64::from(enhanced);
+    [number, place, crate_number, n, a, f, data, enhanced]
 }

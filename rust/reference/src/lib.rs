@@ -1,8 +1,8 @@
 //! The crate list engine of document 01, written a second time as plain Rust.
 //!
 //! The machine-proved engine is compared with this library. It follows document 01
-//! heading by heading and is meant to be read beside it; it shares no code with the
-//! proved engine.
+//! heading by heading, with document 02's requests that have landed, and is meant to be
+//! read beside it; it shares no code with the proved engine.
 
 #![forbid(unsafe_code)]
 

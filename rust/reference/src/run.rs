@@ -12,8 +12,8 @@ use crate::status;
 use crate::walk::{admission, Admitted};
 use crate::words::{Camac, Direction, QMode, Transfer};
 
-/// "the operation wanted next: crate, N, A, F and data"; "after the end or a refusal all
-/// five are zero."
+/// "the operation wanted next: crate, N, A, F and data", with "a sixth number, 1 if
+/// enhanced, else 0" (E1); after the end or a refusal all six are zero.
 #[derive(Clone, Copy, Debug, Default, PartialEq, Eq)]
 pub struct Operation {
     pub crate_number: u64,
@@ -21,6 +21,7 @@ pub struct Operation {
     pub a: u64,
     pub f: u64,
     pub data: u64,
+    pub enhanced: bool,
 }
 
 /// What start and step yield.
@@ -464,5 +465,6 @@ pub(crate) fn wanted(admitted: &Admitted, record: &Record, outgoing: &[u8]) -> O
         a: record.a,
         f: camac.address.function,
         data: u64::from(data),
+        enhanced: camac.is_enhanced(),
     }
 }

@@ -1,4 +1,4 @@
-//! CAMAC words (document 01, "CAMAC words"; refusals 6 to 9).
+//! CAMAC words (document 01, "CAMAC words", with document 02's E1; refusals 6 to 9).
 
 use crate::scan::Position;
 
@@ -8,7 +8,8 @@ pub const ZERO_BITS: u32 = 1 << 31 | 1 << 30 | 1 << 15 | 1 << 14 | 1 << 7 | 1 <<
 /// The largest H of a block: "H above 65,536" is refused.
 pub const MOST_HALFWORDS: u32 = 65_536;
 
-/// "Q-mode 0 stop, 1 ignore, 2 repeat, 3 scan."
+/// "Q-mode 0 stop, 1 ignore, 2 repeat, 3 scan." In transfer mode 2 "Q-mode 3 there is the
+/// list sequencer", which "goes by ignore mode's rules" (E1): its Q-mode is ignore here.
 #[derive(Clone, Copy, Debug, PartialEq, Eq)]
 pub enum QMode {
     Stop,
@@ -60,12 +61,14 @@ pub struct Address {
     pub function: u64,
 }
 
-/// "Transfer mode 0 single (length 4), 1 block (8), 2 enhanced (not carried), 3 inline
-/// write (8)."
+/// "Transfer mode 0 single (length 4), 1 block (8), 2 enhanced", "carried with length 8"
+/// (E1), "3 inline write (8)." The sequencer is transfer mode 2 with Q-mode 3.
 #[derive(Clone, Copy, Debug, PartialEq, Eq)]
 pub enum Transfer {
     Single,
     Block { words: u64 },
+    Enhanced { words: u64 },
+    Sequencer { words: u64 },
     Inline { data: u32 },
 }
 
@@ -85,12 +88,28 @@ impl Camac {
     pub fn words(&self) -> u64 {
         match self.transfer {
             Transfer::Single | Transfer::Inline { .. } => 1,
-            Transfer::Block { words } => words,
+            Transfer::Block { words }
+            | Transfer::Enhanced { words }
+            | Transfer::Sequencer { words } => words,
         }
     }
 
+    /// By F, but for the sequencer: "A 0 or 1 reading and 2 or 3 writing"; "A tells the
+    /// direction there, although F 12 is a control function" (E1).
     pub fn direction(&self) -> Direction {
-        direction(self.address.function)
+        match (self.transfer, self.address.subaddress) {
+            (Transfer::Sequencer { .. }, 0 | 1) => Direction::Read,
+            (Transfer::Sequencer { .. }, _) => Direction::Write,
+            _ => direction(self.address.function),
+        }
+    }
+
+    /// The operation's sixth number, "1 if enhanced, else 0" (E1).
+    pub fn is_enhanced(&self) -> bool {
+        matches!(
+            self.transfer,
+            Transfer::Enhanced { .. } | Transfer::Sequencer { .. }
+        )
     }
 
     /// Where the instruction's first operation goes.
@@ -111,7 +130,7 @@ pub fn decode(first: u32, second: Option<u32>) -> Result<Camac, u8> {
     let address = address(first);
     let q_mode = q_mode(first);
     check_address(&address, q_mode)?;
-    let mode = check_mode(first, address.function, second)?;
+    let mode = check_mode(first, second)?;
     let size = word_size(first);
     let instruction = Camac {
         transfer: transfer(mode, size)?,
@@ -139,14 +158,25 @@ fn address(first: u32) -> Address {
     }
 }
 
+/// "transfer mode 6–5".
+fn transfer_mode(first: u32) -> u64 {
+    bits(first, 6, 5)
+}
+
 /// "Q-mode 4–3".
 fn q_mode(first: u32) -> QMode {
     match bits(first, 4, 3) {
         0 => QMode::Stop,
         1 => QMode::Ignore,
         2 => QMode::Repeat,
+        _ if is_sequencer(first) => QMode::Ignore,
         _ => QMode::Scan,
     }
+}
+
+/// Whether a word is "in sequencer mode" (E1), right or not.
+fn is_sequencer(first: u32) -> bool {
+    transfer_mode(first) == 2 && bits(first, 4, 3) == 3
 }
 
 fn word_size(first: u32) -> WordSize {
@@ -167,7 +197,8 @@ fn direction(function: u64) -> Direction {
     }
 }
 
-/// "7: crate not 1–62; N not 1–23 or 30; Q-mode 3 with N = 30."
+/// "7: crate not 1–62; N not 1–23 or 30; Q-mode 3 with N = 30", which "spares N 30 in
+/// sequencer mode" (E1).
 fn check_address(address: &Address, q_mode: QMode) -> Result<(), u8> {
     let crate_known = (1..=62).contains(&address.crate_number);
     let station_known = (1..=23).contains(&address.station) || address.station == 30;
@@ -179,21 +210,63 @@ fn check_address(address: &Address, q_mode: QMode) -> Result<(), u8> {
     }
 }
 
-/// A transfer mode that is carried, with the second longword that its length brings.
+/// A transfer mode with the second longword that its length brings.
 enum Mode {
     Single,
     Block(u32),
+    Enhanced(u32),
+    Sequencer(u32),
     Inline(u32),
 }
 
-/// "8: mode 2; length not the mode's; block with control; inline not write."
-fn check_mode(first: u32, function: u64, second: Option<u32>) -> Result<Mode, u8> {
-    let direction = direction(function);
-    match (bits(first, 6, 5), second) {
+/// "8: length not the mode's; block with control; inline not write"; it "no longer takes
+/// mode 2 as such" (E1).
+fn check_mode(first: u32, second: Option<u32>) -> Result<Mode, u8> {
+    let direction = direction(address(first).function);
+    match (transfer_mode(first), second) {
         (0, None) => Ok(Mode::Single),
         (1, Some(second)) if direction != Direction::Control => Ok(Mode::Block(second)),
+        (2, Some(second)) if enhanced_fault(first).is_none() => Ok(if is_sequencer(first) {
+            Mode::Sequencer(second)
+        } else {
+            Mode::Enhanced(second)
+        }),
         (3, Some(second)) if direction == Direction::Write => Ok(Mode::Inline(second)),
         _ => Err(8),
+    }
+}
+
+/// What 8 takes in transfer mode 2, "a length other than 8" aside.
+#[derive(Clone, Copy, Debug, PartialEq, Eq, PartialOrd, Ord)]
+pub enum EnhancedFault {
+    Control,
+    RepeatWrite,
+    SequencerStation,
+    SequencerFunction,
+    SequencerSubaddress,
+}
+
+/// "control outside sequencer mode, a repeat write, or a sequencer instruction other than
+/// those four": "N 30, F 12, A 0 or 1 reading and 2 or 3 writing" (E1).
+pub fn enhanced_fault(first: u32) -> Option<EnhancedFault> {
+    let Address {
+        station,
+        subaddress,
+        function,
+        ..
+    } = address(first);
+    if is_sequencer(first) {
+        return match (station, function, subaddress) {
+            (30, 12, 0..=3) => None,
+            (30, 12, _) => Some(EnhancedFault::SequencerSubaddress),
+            (30, _, _) => Some(EnhancedFault::SequencerFunction),
+            _ => Some(EnhancedFault::SequencerStation),
+        };
+    }
+    match (direction(function), q_mode(first)) {
+        (Direction::Control, _) => Some(EnhancedFault::Control),
+        (Direction::Write, QMode::Repeat) => Some(EnhancedFault::RepeatWrite),
+        _ => None,
     }
 }
 
@@ -205,6 +278,14 @@ fn transfer(mode: Mode, size: WordSize) -> Result<Transfer, u8> {
         Mode::Block(second) => {
             let words = block_words(second, size)?;
             Ok(Transfer::Block { words })
+        }
+        Mode::Enhanced(second) => {
+            let words = block_words(second, size)?;
+            Ok(Transfer::Enhanced { words })
+        }
+        Mode::Sequencer(second) => {
+            let words = block_words(second, size)?;
+            Ok(Transfer::Sequencer { words })
         }
         Mode::Inline(data) if data & !size.mask() == 0 => Ok(Transfer::Inline { data }),
         Mode::Inline(_) => Err(9),
@@ -225,7 +306,7 @@ fn block_words(second: u32, size: WordSize) -> Result<u64, u8> {
     }
 }
 
-/// The last of 9: "scan with n above P".
+/// The last of 9: "scan with n above P", which "doesn't apply" to the sequencer (E1).
 fn check_scan(instruction: &Camac) -> Result<(), u8> {
     let scans = instruction.q_mode == QMode::Scan;
     if scans && instruction.words() > instruction.position().positions() {

@@ -1,6 +1,7 @@
 //! The cases themselves: what they cover, and the plain run compared with the whole run.
 
 use reference::cases::coverage::Coverage;
+use reference::cases::lists::{Draft, DraftField, BITS_16};
 use reference::cases::{calls, case, records, Case};
 use reference::{admit, plain, run_row, start, step, Operation, Record, RunAnswer};
 
@@ -8,7 +9,7 @@ const SEED: u64 = 1;
 
 /// Debug builds look at fewer cases.
 const CASES: u64 = if cfg!(debug_assertions) {
-    6_000
+    20_000
 } else {
     200_000
 };
@@ -69,6 +70,27 @@ fn plain_equals_the_whole_run() {
         assert_eq!(admitted, expected, "case {number}");
         let plain = plain::run_row(&case.list, &mut incoming, &case.outgoing, &case.row);
         assert_eq!((plain, incoming), whole_run(&case), "case {number}");
+    }
+}
+
+/// The plain admission of every N, A, F, Q-mode and transfer mode, in both lengths and word
+/// sizes, with right and wrong second longwords.
+#[test]
+fn plain_admits_every_word_alike() {
+    let stride = if cfg!(debug_assertions) { 97 } else { 1 };
+    let seconds = [0, 1, 0xFFFF_FFFE, 0xFFFF_FFFF, 0xFFFF_FE00];
+    for bits in (0..1_u32 << 18).step_by(stride) {
+        let naf = bits >> 4 << 16;
+        let first = naf | 0x0100 | (bits & 15) << 3;
+        for first in [first, first | BITS_16] {
+            let short = DraftField::camac(first, None);
+            let long = seconds.map(|second| DraftField::camac(first, Some(second)));
+            for field in [short].into_iter().chain(long) {
+                let list = Draft::new(3, vec![field, DraftField::halt()]).bytes();
+                let counts = plain::admit(&list, u64::MAX, u64::MAX);
+                assert_eq!(counts, admit(&list, u64::MAX, u64::MAX), "{list:02X?}");
+            }
+        }
     }
 }
 

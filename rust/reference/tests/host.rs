@@ -24,17 +24,41 @@ fn a_run_by_hand() {
     let (list, mut incoming) = (words(), [0xEE; 4]);
     let (mut record, answer) = start_numbers(&list, &mut incoming, &[]);
     assert_eq!(record, [0, 0, 2, 0, 6, 0, 0, 0, 0, 0, 0, 0, 0]);
-    let wanted = [0, 0, 3, 6, 0, 2, 0];
+    let wanted = [0, 0, 3, 6, 0, 2, 0, 0];
     assert_eq!(answer, wanted);
     let answer = step_numbers(&list, &mut record, &mut incoming, &[], &answers(&[X]));
     assert_eq!((record, answer), (TRIED, wanted));
     let row = [ok(0x1234), ok(0x5678), kind(1)].concat();
     let answer = steps_numbers(&list, &mut record, &mut incoming, &[], &row);
-    assert_eq!(answer, [0, 0, 2, 0, 0, 0, 0, 0]);
+    assert_eq!(answer, [0, 0, 2, 0, 0, 0, 0, 0, 0]);
     assert_eq!(record, [1, 1, 0, 0, 0, 0, 4, 0, 3, 0x1_0080, 0, 2, 2]);
     assert_eq!(incoming, [0x34, 0x12, 0x78, 0x56]);
     let answer = steps_numbers(&list, &mut record, &mut incoming, &[], &row);
-    assert_eq!(answer, [24, 0, 0, 0, 0, 0, 0, 0]);
+    assert_eq!(answer, [24, 0, 0, 0, 0, 0, 0, 0, 0]);
+}
+
+/// E1: "The operation wanted next gains a sixth number", in start, step and steps; zero after
+/// the end. Two words for the sequencer's list 3, then a standard read.
+#[test]
+fn an_enhanced_run_by_hand() {
+    let fields = double(0x3C6C_055A, 0xFFFF_FFFE) + &single(0x0C02_0302);
+    let (list, outgoing) = (one(&fields), [0x34, 0x12, 0x78, 0x56]);
+    let mut incoming = [0xEE; 2];
+    let (mut record, answer) = start_numbers(&list, &mut incoming, &outgoing);
+    assert_eq!(record, [0, 0, 2, 0, 30, 3, 0, 0, 0, 0, 0, 0, 0]);
+    assert_eq!(answer, [0, 0, 5, 30, 3, 12, 0x1234, 1]);
+    let answer = step_numbers(&list, &mut record, &mut incoming, &outgoing, &answers(&[X]));
+    assert_eq!(record, [0, 0, 1, 0, 30, 3, 0, 2, 1, 0x1_0000, 1, 0, 2]);
+    assert_eq!(answer, [0, 0, 5, 30, 3, 12, 0x5678, 1]);
+    let answer = steps_numbers(&list, &mut record, &mut incoming, &outgoing, &[]);
+    assert_eq!(answer, [0, 0, 0, 5, 30, 3, 12, 0x5678, 1]);
+    let answer = steps_numbers(&list, &mut record, &mut incoming, &outgoing, &ok(0));
+    assert_eq!(record, [0, 1, 1, 0, 6, 0, 0, 4, 2, 0x1_0000, 1, 2, 2]);
+    assert_eq!(answer, [0, 0, 1, 3, 6, 0, 2, 0, 0]);
+    let answer = step_numbers(&list, &mut record, &mut incoming, &outgoing, &ok(0x9ABC));
+    assert_eq!(answer, [0; 8]);
+    assert_eq!(record, [1, 2, 0, 0, 0, 0, 2, 4, 3, 0x1_0080, 0, 0, 2]);
+    assert_eq!(incoming, [0xBC, 0x9A]);
 }
 
 /// An empty row changes nothing and says what is wanted.
@@ -42,7 +66,7 @@ fn a_run_by_hand() {
 fn steps_over_no_reply() {
     let (list, mut incoming, mut record) = (words(), [0xEE; 4], TRIED);
     let answer = steps_numbers(&list, &mut record, &mut incoming, &[], &[]);
-    assert_eq!(answer, [0, 0, 0, 3, 6, 0, 2, 0]);
+    assert_eq!(answer, [0, 0, 0, 3, 6, 0, 2, 0, 0]);
     assert_eq!((record, incoming), (TRIED, [0xEE; 4]));
 }
 
@@ -57,7 +81,7 @@ fn the_whole_row_is_checked_first() {
     for row in rows {
         let (list, mut incoming, mut record) = (words(), [0xEE; 4], TRIED);
         let answer = steps_numbers(&list, &mut record, &mut incoming, &[], &row);
-        assert_eq!(answer, [22, 0, 0, 0, 0, 0, 0, 0]);
+        assert_eq!(answer, [22, 0, 0, 0, 0, 0, 0, 0, 0]);
         assert_eq!((record, incoming), (TRIED, [0xEE; 4]));
     }
 }
@@ -88,7 +112,7 @@ fn numbers_too_wide() {
     ] {
         let (list, mut incoming, mut record) = (words(), [0xEE; 4], given);
         let answer = step_numbers(&list, &mut record, &mut incoming, &[], &ok(1));
-        assert_eq!(answer, [number, 0, 0, 0, 0, 0, 0], "{given:?}");
+        assert_eq!(answer, [number, 0, 0, 0, 0, 0, 0, 0], "{given:?}");
         assert_eq!((record, incoming), (given, [0xEE; 4]));
         // Admission's refusals come first.
         let answer = step_numbers(&list, &mut record, &mut incoming[..3], &[], &ok(1));
@@ -101,7 +125,7 @@ fn numbers_too_wide() {
 fn a_refused_start() {
     let (record, answer) = start_numbers(&list(M01), &mut [], &[]);
     assert_eq!(record, [1, 0, 0, 0, 0, 0, 0, 0, 0, 0, 0, 0, 0]);
-    assert_eq!(answer, [8, 18, 0, 0, 0, 0, 0]);
+    assert_eq!(answer, [8, 18, 0, 0, 0, 0, 0, 0]);
 }
 
 #[test]

@@ -1,25 +1,36 @@
 //! The cases of documents 01 and 02 and the manual's examples.
 
-use reference::cases::paper;
-use reference::host::{admission_numbers, run_numbers};
+use reference::cases::paper::{self, Engine};
+use reference::host::{admission_numbers, run_numbers, start_numbers, step_numbers};
+
+const ENGINE: Engine = Engine {
+    admit: admission_numbers,
+    run: run_numbers,
+    start: |list, incoming, outgoing, record| {
+        let (started, answer) = start_numbers(list, incoming, outgoing);
+        *record = started;
+        answer
+    },
+    step: step_numbers,
+};
 
 #[test]
 fn document_01() {
     for known in paper::document_01() {
-        known.check(admission_numbers, run_numbers);
+        known.check(&ENGINE);
     }
 }
 
 #[test]
 fn document_02() {
     for known in paper::document_02() {
-        known.check(admission_numbers, run_numbers);
+        known.check(&ENGINE);
     }
 }
 
 #[test]
 fn the_manual() {
     for known in paper::manual() {
-        known.check(admission_numbers, run_numbers);
+        known.check(&ENGINE);
     }
 }

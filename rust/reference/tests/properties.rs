@@ -2,10 +2,10 @@
 
 use std::collections::HashMap;
 
-use reference::cases::lists;
+use reference::cases::lists::{self, Draft, DraftField, BLOCK, ENHANCED, Q_MODE};
 use reference::cases::records::{fitting, step_case};
 use reference::cases::rng::Rng;
-use reference::cases::rows::{row, slowest, Manner};
+use reference::cases::rows::{row, slowest, Manner, MANNERS};
 use reference::fit::{fits, most_still_possible};
 use reference::scan::Position;
 use reference::walk::{admission, Admitted};
@@ -17,6 +17,13 @@ const CASES: u64 = if cfg!(debug_assertions) {
 } else {
     60_000
 };
+
+const STOP: u32 = 0;
+const IGNORE: u32 = 1 << 3;
+const REPEAT: u32 = 2 << 3;
+/// F 16, and the list sequencer's F 12.
+const WRITE: u32 = 16 << 16;
+const SEQUENCER: u32 = 12 << 16;
 
 /// Rows longer than this are not made.
 const MOST_REPLIES: u64 = 3_000;
@@ -80,6 +87,77 @@ fn the_slowest_replies_reach_w_and_b() {
         reached += 1;
     }
     assert!(reached > CASES / 2);
+}
+
+/// E1: "Counts, packing and endings are those of standard blocks": with its standard blocks
+/// turned enhanced where those are carried, a list runs as before.
+#[test]
+fn enhanced_blocks_run_as_standard_ones() {
+    let mut rng = Rng::new(7);
+    let mut turned = 0;
+    for _ in 0..CASES {
+        let standard = lists::small(&mut rng);
+        let mut enhanced = standard.clone();
+        for field in &mut enhanced.fields {
+            turned += u64::from(turn_enhanced(field));
+        }
+        compare_runs(&mut rng, &standard.bytes(), &enhanced.bytes());
+    }
+    assert!(turned > CASES / 4);
+}
+
+/// Turns a standard block that isn't a scan or a repeat write.
+fn turn_enhanced(field: &mut DraftField) -> bool {
+    let block = field.tag == 0x10 && field.mode() == BLOCK;
+    let q_mode = block.then(|| field.first() & Q_MODE);
+    let writes = block && field.first() & WRITE != 0;
+    match q_mode {
+        Some(STOP | IGNORE) => {}
+        Some(REPEAT) if !writes => {}
+        _ => return false,
+    }
+    field.set_first(field.first() ^ BLOCK ^ ENHANCED);
+    true
+}
+
+/// "It goes by ignore mode's rules": a sequencer runs as the ignore block at its N and A that
+/// reads, for A 0 and 1, or writes.
+#[test]
+fn a_sequencer_runs_as_an_ignore_block() {
+    let mut rng = Rng::new(8);
+    for number in 0..CASES / 4 {
+        let subaddress = number as u32 % 4;
+        let flags = rng.below(4) as u32;
+        let halfwords = 2 * rng.within(1..=6) as u32;
+        let first = 30 << 25 | subaddress << 21 | 0x0100 | flags;
+        let function = if subaddress < 2 { 0 } else { WRITE };
+        let list = |first| {
+            let before = DraftField::camac(0x0200_0102, None);
+            let block = DraftField::camac(first, Some(halfwords.wrapping_neg()));
+            let literal = DraftField::literal(0x1234_5678);
+            Draft::new(3, vec![before, block, literal, DraftField::halt()]).bytes()
+        };
+        let ignore = list(first | BLOCK | IGNORE | function);
+        let sequencer = list(first | ENHANCED | Q_MODE | SEQUENCER);
+        compare_runs(&mut rng, &ignore, &sequencer);
+    }
+}
+
+/// Compares admission and a run of two lists.
+fn compare_runs(rng: &mut Rng, list: &[u8], other: &[u8]) {
+    let admitted = admission(list, u64::MAX, u64::MAX).expect("admitted");
+    let manner = rng.pick(&MANNERS);
+    let row = row(rng, &admitted, manner, 100);
+    let incoming = vec![0xEE; admitted.counts.b as usize];
+    let outgoing = rng.bytes(admitted.counts.o as usize);
+    let ran = |list: &[u8]| {
+        let mut incoming = incoming.clone();
+        let answer = run_row(list, &mut incoming, &outgoing, &row);
+        (answer, incoming)
+    };
+    let counts = admission(other, u64::MAX, u64::MAX).map(|admitted| admitted.counts);
+    assert_eq!(counts, Ok(admitted.counts), "{list:02X?} {other:02X?}");
+    assert_eq!(ran(list), ran(other), "{list:02X?} {other:02X?}");
 }
 
 /// The slowest scan from every position with every number of words, by positions alone.

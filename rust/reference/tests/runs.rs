@@ -44,6 +44,14 @@ fn what_camrun_prints_otherwise() {
     assert_eq!(render(&large, &[], &[]), "refused 20 0\n");
 }
 
+/// E1: camrun's `op` line keeps its five numbers.
+#[test]
+fn camrun_of_an_enhanced_list() {
+    let printed = ["admitted 1 4 0", "op 1 1 30 0 12", "end 8 80020080 1 0"];
+    let sequencer = list_with(1, &(double(0x3C0C_0158, 0xFFFF_FFFE) + HALT));
+    assert_eq!(lines(&sequencer, &answers(&[Q]), &[]), printed);
+}
+
 /// Each file is cut before anything looks at it.
 #[test]
 fn camrun_cuts_its_files() {

@@ -136,20 +136,16 @@ fn addresses_out_of_range_are_7() {
         assert_eq!(decode(station << 25 | 0x0102, None).err(), expected);
     }
     assert_eq!(decode(30 << 25 | 0x011A, None), Err(7));
-    assert_eq!(decode(0x3C0C_0158, Some(0xFFFF_FFFE)), Err(7));
+    assert_eq!(decode(0x3C0C_0138, Some(0xFFFF_FFFE)), Err(7));
     // 6 comes before 7, 7 before 8.
     assert_eq!(decode(0x0000_0006, None), Err(6));
     assert_eq!(decode(0x0000_0042, None), Err(7));
 }
 
-/// M32, M33, M38 to M40, M44, M45.
+/// M38 to M40, M44, M45.
 #[test]
 fn modes_are_8() {
     let pair = Some(0xFFFF_FFFE);
-    for first in [0x0C02_0340, 0x0C02_0348, 0x0C02_0350, 0x0C02_0358] {
-        assert_eq!(decode(first, pair), Err(8));
-        assert_eq!(decode(first, None), Err(8));
-    }
     for function in 0..32 {
         let first = 0x0C00_0300 | function << 16;
         let control = function & 8 != 0;
@@ -172,6 +168,106 @@ fn inline_data_above_the_word_size_is_9() {
     assert_eq!(decode(0x0C10_0362, Some(0x0001_0000)), Err(9));
     assert!(decode(0x0C10_0362, Some(0x0000_FFFF)).is_ok());
     assert!(decode(0x0C10_0360, Some(0x00FF_FFFF)).is_ok());
+}
+
+/// M31: "N 30, F 12, A 0 or 1 reading and 2 or 3 writing" (E1).
+#[test]
+fn the_list_sequencer() {
+    for subaddress in 0..4 {
+        let first = 0x3C0C_015A | (subaddress as u32) << 21;
+        let expected = Camac {
+            transfer: Transfer::Sequencer { words: 400 },
+            q_mode: QMode::Ignore,
+            address: naf(1, 30, subaddress, 12),
+            size: WordSize::Bits16,
+            abort_disable: false,
+        };
+        let sequencer = decode(first, count(400)).expect("a sequencer");
+        assert_eq!(sequencer, expected);
+        let directions = [Direction::Read, Direction::Write];
+        assert_eq!(
+            sequencer.direction(),
+            directions[usize::from(subaddress > 1)]
+        );
+        assert!(sequencer.is_enhanced());
+    }
+}
+
+/// M32: enhanced blocks.
+#[test]
+fn enhanced_blocks() {
+    let modes = [QMode::Stop, QMode::Ignore, QMode::Repeat];
+    for (bits, q_mode) in modes.into_iter().enumerate() {
+        let first = 0x0C02_0341 | (bits as u32) << 3;
+        let expected = Camac {
+            transfer: Transfer::Enhanced { words: 2 },
+            q_mode,
+            address: naf(3, 6, 0, 2),
+            size: WordSize::Bits24,
+            abort_disable: true,
+        };
+        assert_eq!(decode(first, count(4)), Ok(expected));
+        assert!(expected.is_enhanced());
+        let standard = decode(first - (1 << 5), count(4)).expect("a block");
+        assert_eq!(standard.transfer, Transfer::Block { words: 2 });
+        assert!(!standard.is_enhanced());
+    }
+}
+
+/// The refusal that document 02 has for a word of transfer mode 2 and length 8 with a right
+/// second longword.
+fn enhanced_refusal(station: u32, function: u32, subaddress: u32, q_mode: u32) -> Option<u8> {
+    let writes = (16..24).contains(&function);
+    let reads = function < 8;
+    match (station, q_mode) {
+        (0 | 24..=29 | 31, _) => Some(7),
+        (30, 3) if function == 12 && subaddress < 4 => None,
+        (_, 0 | 1) if reads || writes => None,
+        (_, 2) if reads => None,
+        _ => Some(8),
+    }
+}
+
+/// Every N, F, A and Q-mode of transfer mode 2; with length 4 what isn't 7 is 8.
+#[test]
+fn every_word_of_mode_2() {
+    for bits in 0..1 << 16 {
+        let (station, subaddress) = (bits >> 11, bits >> 7 & 15);
+        let (function, q_mode) = (bits >> 2 & 31, bits & 3);
+        let first = station << 25 | subaddress << 21 | function << 16 | 0x0140 | q_mode << 3;
+        let expected = enhanced_refusal(station, function, subaddress, q_mode);
+        let what = format!("N {station} A {subaddress} F {function} Q-mode {q_mode}");
+        assert_eq!(decode(first, count(2)).err(), expected, "{what}");
+        let short = if expected == Some(7) { 7 } else { 8 };
+        assert_eq!(decode(first, None), Err(short), "{what}");
+        // 8 comes before 9.
+        let zero = expected.unwrap_or(9);
+        assert_eq!(decode(first, Some(0)), Err(zero), "{what}");
+    }
+}
+
+/// "H above 65,536; H odd for 24-bit" of enhanced blocks; a sequencer's n may be above P.
+#[test]
+fn counts_of_mode_2() {
+    for first in [0x0C02_0340, 0x0C10_0348, 0x3C0C_0158, 0x3C6C_0158] {
+        for (halfwords, expected) in [
+            (0, Err(9)),
+            (1, Err(9)),
+            (2, Ok(1)),
+            (3, Err(9)),
+            (65_536, Ok(32_768)),
+            (65_537, Err(9)),
+            (65_538, Err(9)),
+        ] {
+            let words = |first| decode(first, count(halfwords)).map(|camac| camac.words());
+            assert_eq!(words(first), expected, "{first:08X} {halfwords}");
+            let short = match halfwords {
+                1..=65_536 => Ok(u64::from(halfwords)),
+                _ => Err(9),
+            };
+            assert_eq!(words(first | 2), short, "{first:08X} {halfwords}");
+        }
+    }
 }
 
 #[test]

@@ -5,8 +5,8 @@ use Rattle.answers.specs.model.Visit.{rulesOf, rulesIn}
 use Rattle.answers.proofs.rules_in.Statement.{statement}
 use Rattle.answers.proofs.rules_in.Tie as tie
 
-qmode-in-requires : tie.Need-qmode-in-requires
-qmode-in-requires c κs = search needs
+passed-qmode-requires : tie.Need-passed-qmode-requires
+passed-qmode-requires c κs = search needs
 
 has-ad-requires : tie.Need-has-ad-requires
 has-ad-requires c κs = search needs
@@ -29,18 +29,18 @@ returns c =
       command-ad,
       c .word-flags .ensures,
       c .before .is-wide .ensures,
-      c .before .before .direction-in .ensures 0,
-      c .before .before .before .has-ad .ensures,
-      c .before .before .before .before .qmode-in .ensures,
+      c .before .before .has-ad .ensures,
+      c .before .before .before .direction-in .ensures 0,
+      c .before .before .before .before .passed-qmode .ensures,
     )
 
 pub rules-in-spec : {M : Type 1} → statement M
 rules-in-spec =
     tie.close
     (tie.spec
-    qmode-in-requires
-    has-ad-requires
+    passed-qmode-requires
     direction-in-requires
+    has-ad-requires
     is-wide-requires
     word-flags-requires
     returns)

@@ -41,6 +41,8 @@ static int call(const char *name, const unsigned n[6])
     if (strcmp(name, "head") == 0) return camlist_put_head(&put, n[0]);
     if (strcmp(name, "single") == 0) return camlist_put_single(&put, n[0], n[1], n[2], n[3], n[4]);
     if (strcmp(name, "block") == 0) return camlist_put_block(&put, n[0], n[1], n[2], n[3], n[4], n[5]);
+    if (strcmp(name, "enhanced") == 0) return camlist_put_enhanced(&put, n[0], n[1], n[2], n[3], n[4], n[5]);
+    if (strcmp(name, "sequencer") == 0) return camlist_put_sequencer(&put, n[0], n[1], n[2], n[3]);
     if (strcmp(name, "inline") == 0) return camlist_put_inline(&put, n[0], n[1], n[2], n[3], n[4], n[5]);
     if (strcmp(name, "jump") == 0) return camlist_put_jump(&put, n[0]);
     if (strcmp(name, "literal") == 0) return camlist_put_literal(&put, n[0]);

@@ -70,6 +70,16 @@ static const struct test_case cases[] = {
     {"run: literal", RUN, READ, "l", 0, 0},
     {"run: 24-bit write", RUN, WRITE, "w", 0, 1},
     {"run: 24-bit write block", RUN, WRITE, "b", 0, WIDE_BLOCK},
+    {"admission: enhanced 24-bit read block", ADMIT, READ, "e", 0, 0},
+    {"admission: 24-bit sequencer, write", ADMIT, WRITE, "q", 0, 0},
+    {"step: enhanced 24-bit read block, first word", STEP, READ, "e", 0, 1},
+    {"step: enhanced 24-bit write block, first word", STEP, WRITE, "e", 0, 1},
+    {"step: 24-bit sequencer, first word read", STEP, READ, "q", 0, 1},
+    {"step: 24-bit sequencer, first word written", STEP, WRITE, "q", 0, 1},
+    {"steps: enhanced 24-bit read block", STEPS, READ, "e", 0, WIDE_BLOCK},
+    {"steps: 24-bit sequencer, write", STEPS, WRITE, "q", 0, WIDE_BLOCK},
+    {"run: enhanced 24-bit write block", RUN, WRITE, "e", 0, WIDE_BLOCK},
+    {"run: 24-bit sequencer, read", RUN, READ, "q", 0, WIDE_BLOCK},
 };
 
 /* Pairs whose traces must differ: words of 16 and of 24 bits. */
@@ -128,7 +138,8 @@ static uint8_t list_room[LIST_ROOM], row_room[MOST_REPLIES * CAMLIST_REPLY_BYTES
 static camlist_bytes list, row;
 static uint64_t record[CAMLIST_RECORD_NUMBERS], answer[CAMLIST_RUN_NUMBERS];
 
-/* A letter for each: a single of 16 bits (n) or 24 (w), a block of 24-bit words (b), the same as a scan (s), a literal (l). */
+/* A letter for each: a single of 16 bits (n) or 24 (w), a block of 24-bit words (b), the same as a scan (s), enhanced (e) or by the list
+   sequencer (q), a literal (l). */
 static void put_between(const char *between, unsigned f)
 {
     for (; *between; between++) {
@@ -136,6 +147,8 @@ static void put_between(const char *between, unsigned f)
         case 'n': camlist_put_single(&list, CRATE, STATION, 0, f, CAMLIST_STOP | CAMLIST_16_BIT); break;
         case 'w': camlist_put_single(&list, CRATE, STATION, 0, f, CAMLIST_STOP); break;
         case 'b': camlist_put_block(&list, CRATE, STATION, 0, f, CAMLIST_STOP, WIDE_BLOCK); break;
+        case 'e': camlist_put_enhanced(&list, CRATE, STATION, 0, f, CAMLIST_STOP, WIDE_BLOCK); break;
+        case 'q': camlist_put_sequencer(&list, CRATE, f == READ ? 0 : 2, 0, WIDE_BLOCK); break;
         case 's': camlist_put_block(&list, CRATE, STATION, 0, f, CAMLIST_SCAN, SCAN_WORDS); break;
         case 'l': camlist_put_literal(&list, 0xAABBCCDDu); break;
         default: abort();

@@ -1,13 +1,15 @@
 //! A family of small lists: each transfer mode with each Q-mode, direction, word size and AD,
-//! with marks that need a pad and marks that don't, and with fields off the walk.
+//! the list sequencer among them, with marks that need a pad and marks that don't, and with
+//! fields off the walk.
 
 #![allow(dead_code)]
 
-use reference::cases::lists::{Draft, DraftField, BITS_16, BLOCK, INLINE};
+use reference::cases::lists::{Draft, DraftField, BITS_16, BLOCK, ENHANCED, INLINE};
 
 const READ: u32 = 2 << 16;
 const WRITE: u32 = 16 << 16;
 const CONTROL: u32 = 24 << 16;
+const SEQUENCER: u32 = 12 << 16;
 const REPEAT: u32 = 2;
 const SCAN: u32 = 3;
 
@@ -18,7 +20,8 @@ pub struct Small {
     pub before: usize,
 }
 
-/// The family: R up to 3 in repeat; scans from places near 23/15.
+/// The family: R up to 3 in repeat; scans from places near 23/15. Lists that are refused are in
+/// it too.
 pub fn family() -> Vec<Small> {
     let mut family = Vec::new();
     for bits in 0..16 {
@@ -28,21 +31,39 @@ pub fn family() -> Vec<Small> {
             SCAN => &[(22, 0), (22, 14), (23, 13), (23, 14), (23, 15)],
             _ => &[(6, 1)],
         };
+        let bits = 5 << 8 | q_mode << 3 | flags;
         for limit in limits {
-            for &(n, a) in places {
-                let first = n << 25 | a << 21 | 5 << 8 | q_mode << 3 | flags;
-                for field in fields(first) {
-                    family.extend([aligned(limit, &field), padded(limit, &field)]);
-                    family.push(walked(limit, &field));
-                }
+            let at_places = places.iter().map(|(n, a)| n << 25 | a << 21 | bits);
+            for field in at_places.flat_map(standard).chain(enhanced(bits)) {
+                family.extend([aligned(limit, &field), padded(limit, &field)]);
+                family.push(walked(limit, &field));
             }
         }
     }
     family
 }
 
+/// A block of either kind.
+fn block(first: u32, words: u32) -> DraftField {
+    let size = if first & BITS_16 == 0 { 2 } else { 1 };
+    DraftField::camac(first, Some((words * size).wrapping_neg()))
+}
+
+/// Enhanced blocks of up to two words, the refused repeat write among them; with Q-mode 3, the
+/// four lists of the sequencer.
+fn enhanced(bits: u32) -> Vec<DraftField> {
+    let firsts: Vec<u32> = match bits >> 3 & 3 {
+        SCAN => (0..4).map(|a| 30 << 25 | a << 21 | SEQUENCER).collect(),
+        _ => [READ, WRITE]
+            .map(|function| 6 << 25 | 1 << 21 | function)
+            .to_vec(),
+    };
+    let blocks = |first| (1..=2).map(move |words| block(first | bits | ENHANCED, words));
+    firsts.into_iter().flat_map(blocks).collect()
+}
+
 /// Singles, inline writes, and blocks of up to three words.
-fn fields(first: u32) -> Vec<DraftField> {
+fn standard(first: u32) -> Vec<DraftField> {
     let single = |function| DraftField::camac(first | function, None);
     let mut fields = vec![
         single(READ),
@@ -50,11 +71,9 @@ fn fields(first: u32) -> Vec<DraftField> {
         single(CONTROL),
         DraftField::camac(first | INLINE | WRITE, Some(0xABCD)),
     ];
-    for words in 1..=3_u32 {
-        let size = if first & BITS_16 == 0 { 2 } else { 1 };
-        let count = (words * size).wrapping_neg();
+    for words in 1..=3 {
         for function in [READ, WRITE] {
-            fields.push(DraftField::camac(first | BLOCK | function, Some(count)));
+            fields.push(block(first | BLOCK | function, words));
         }
     }
     fields

@@ -57,7 +57,7 @@ pub fn compare_run(
 }
 
 /// Compares starts. The record that a start is given counts for nothing.
-pub fn compare_start(given: &Given, what: Arguments) -> After<7> {
+pub fn compare_start(given: &Given, what: Arguments) -> After<{ ffi::CALL_NUMBERS }> {
     let Given { list, outgoing, .. } = *given;
     let proved = |incoming: &mut [u8]| {
         let mut record = given.record;
@@ -75,12 +75,12 @@ pub fn compare_start(given: &Given, what: Arguments) -> After<7> {
 }
 
 /// Compares one step: answer, record, incoming bytes and fences.
-pub fn compare_step(given: &Given, reply: &[u8], what: Arguments) -> After<7> {
+pub fn compare_step(given: &Given, reply: &[u8], what: Arguments) -> After<{ ffi::CALL_NUMBERS }> {
     compare_call(given, reply, ffi::step, host::step_numbers, what)
 }
 
 /// Compares steps over a row.
-pub fn compare_steps(given: &Given, row: &[u8], what: Arguments) -> After<8> {
+pub fn compare_steps(given: &Given, row: &[u8], what: Arguments) -> After<{ ffi::STEPS_NUMBERS }> {
     compare_call(given, row, ffi::steps, host::steps_numbers, what)
 }
 

@@ -3,6 +3,7 @@
 use std::collections::BTreeMap;
 
 use super::calls::{CallCase, Origin, NARROW};
+use super::lists::{ENHANCED, MODE, Q_MODE};
 use super::records::StepCase;
 use super::Case;
 use crate::fit::{broken_clause, Clause};
@@ -12,17 +13,22 @@ use crate::list::MOST_INSTRUCTIONS;
 use crate::packing;
 use crate::record::Record;
 use crate::refusal::Refusal;
-use crate::reply::{self, Reply};
+use crate::reply::{self, Reply, Response};
 use crate::run::{begin, current_camac, take};
 use crate::status;
 use crate::walk::{admission, Admitted};
-use crate::words::{Camac, Direction, QMode, Transfer};
+use crate::words::{enhanced_fault, Camac, Direction, EnhancedFault, QMode, Transfer};
 
-/// A transfer mode that is carried.
+/// A scan's positions from N 1, A 0.
+const MOST_POSITIONS: u64 = 368;
+
+/// A transfer mode, the list sequencer apart from the other enhanced blocks.
 #[derive(Clone, Copy, Debug, PartialEq, Eq, PartialOrd, Ord)]
 pub enum Mode {
     Single,
     Block,
+    Enhanced,
+    Sequencer,
     Inline,
 }
 
@@ -53,11 +59,27 @@ pub enum Event {
     /// A jump or a literal on the walk.
     Jump,
     Literal,
+    /// Refusal 8 in transfer mode 2: by its length alone, or with length 8 by this fault.
+    EnhancedLength,
+    Enhanced(EnhancedFault),
+    /// Refusal 7 of a sequencer word, and 9.
+    SequencerAddress,
+    SequencerCount,
+    /// An admitted sequencer of more words than a scan can have positions.
+    LongSequencer,
     /// A word done in this transfer mode and Q-mode (0 stop, 1 ignore, 2 repeat, 3 scan).
     Done(Mode, u8),
     /// An answer in this transfer mode and Q-mode that left its word to be tried again.
     Again(Mode, u8),
     ControlWord,
+    /// An enhanced word written in this Q-mode.
+    EnhancedWrite(u8),
+    /// A word that the list sequencer read or wrote.
+    SequencerRead,
+    SequencerWrite,
+    /// Q = 0 that ended no sequencer, X = 0 that ended one.
+    SequencerNoQ,
+    SequencerNoX,
     /// Two zero bytes before a word or a literal, or skipped before a write.
     IncomingPad,
     LiteralPad,
@@ -127,8 +149,10 @@ impl Coverage {
             Event::Jump,
             Event::Literal,
             Event::LiteralPad,
+            Event::LongSequencer,
         ];
-        Coverage::expecting(refusals.chain(plain).chain(of_operations()))
+        let events = refusals.chain(plain).chain(of_operations());
+        Coverage::expecting(events.chain(of_enhanced_words()))
     }
 
     /// Counters for cases of step, whose lists are all valid.
@@ -165,7 +189,7 @@ impl Coverage {
             Event::StepsEnd,
             Event::StepsPastEnd,
         ];
-        let events = of_operations().chain(plain);
+        let events = of_operations().chain(of_enhanced_words()).chain(plain);
         let events = events.chain(refusals().map(Event::Refusal));
         let events = events.chain(refusals().map(Event::StepsRefused));
         let events = events.chain(clauses.map(Event::Unfit));
@@ -203,6 +227,7 @@ impl Coverage {
     pub fn observe(&mut self, case: &Case) {
         if let Err(refusal) = admission(&case.list, case.lengths.0, case.lengths.1) {
             self.met(Event::Refusal(refusal.number));
+            self.observe_enhanced_fault(&case.list, refusal);
         }
         let lengths = (case.incoming.len() as u64, case.outgoing.len() as u64);
         let Ok(admitted) = admission(&case.list, lengths.0, lengths.1) else {
@@ -236,12 +261,36 @@ impl Coverage {
                 Instruction::Camac(camac) => {
                     let halfwords = camac.words() * camac.size.bytes() / 2;
                     self.met_if(halfwords == 65_536, Event::LargestBlock);
+                    let long = mode(camac) == Mode::Sequencer && camac.words() > MOST_POSITIONS;
+                    self.met_if(long, Event::LongSequencer);
                     if reads(camac) {
                         mark = packing::mark_after_words(mark, camac.size.bytes(), camac.words());
                     }
                 }
                 Instruction::Halt => {}
             }
+        }
+    }
+
+    /// Counts why a CAMAC word of transfer mode 2 was refused.
+    fn observe_enhanced_fault(&mut self, list: &[u8], refusal: Refusal) {
+        let Some(&[_, length, _, a, b, c, d]) = list[refusal.place..].first_chunk() else {
+            return;
+        };
+        let first = u32::from_le_bytes([a, b, c, d]);
+        let sequences = first & Q_MODE == Q_MODE;
+        match (refusal.number, length, first & MODE == ENHANCED) {
+            (7, _, true) => self.met_if(sequences, Event::SequencerAddress),
+            (8, 4, true) => {
+                let alone = enhanced_fault(first).is_none();
+                self.met_if(alone, Event::EnhancedLength);
+            }
+            (8, _, true) => {
+                let fault = enhanced_fault(first).expect("a fault that 8 is for");
+                self.met(Event::Enhanced(fault));
+            }
+            (9, _, true) => self.met_if(sequences, Event::SequencerCount),
+            _ => {}
         }
     }
 
@@ -290,7 +339,7 @@ impl Coverage {
 
     fn observe_one_step(&mut self, case: &CallCase) {
         let (mut record, mut incoming) = (case.record, case.incoming.clone());
-        let [number, ..] = step_numbers(
+        let [number, place, ..] = step_numbers(
             &case.list,
             &mut record,
             &mut incoming,
@@ -298,7 +347,9 @@ impl Coverage {
             &case.reply,
         );
         if number != 0 {
-            self.met(Event::Refusal(number as u8));
+            let refusal = Refusal::at(number as u8, place as usize);
+            self.met(Event::Refusal(refusal.number));
+            self.observe_enhanced_fault(&case.list, refusal);
         }
         let lengths = (case.incoming.len() as u64, case.outgoing.len() as u64);
         let Ok(admitted) = admission(&case.list, lengths.0, lengths.1) else {
@@ -366,16 +417,15 @@ impl Coverage {
             return;
         };
         let camac = current_camac(&admitted.list, before);
-        let left = after.status & status::SCAN_LEFT != 0;
         let on = !after.ended || code == 0;
         let parity = response.tpe || response.lpe;
-        let again = same_word(before, after);
         let (mode, q_mode) = (mode(&camac), q_number(&camac));
-        if on && again {
+        if on && same_word(before, after) {
             self.met(Event::Again(mode, q_mode));
         } else if on {
             self.met(Event::Done(mode, q_mode));
             self.met_if(camac.direction() == Direction::Control, Event::ControlWord);
+            self.observe_enhanced_word(&camac, response);
             self.observe_pad(&camac, before);
         }
         self.met_if(code == 0xB, Event::TriesSpent);
@@ -383,19 +433,44 @@ impl Coverage {
             on && (parity || !response.x) && camac.abort_disable,
             Event::AbortDisabled,
         );
+        let no_x = mode == Mode::Sequencer && code == 8;
+        self.met_if(no_x, Event::SequencerNoX);
         if camac.q_mode == QMode::Scan {
-            let done = response.q && response.x;
-            let last_word = before.words_left == 1;
-            let last_place = (before.n, before.a) == (23, 15);
-            self.met_if(on && done && before.a == 15 && !last_word, Event::ScanWraps);
-            self.met_if(on && !done, Event::ScanSkips);
-            let finishes = done && last_word && last_place;
-            self.met_if(on && finishes, Event::ScanFinishesLast);
-            self.met_if(code == 0xA && finishes, Event::ScanFinishesWithParity);
-            self.met_if(left && done && code == 9, Event::ScanLeavesMoved);
-            self.met_if(left && !done && code == 9, Event::ScanLeavesSkipping);
-            self.met_if(left && code > 9, Event::ScanLeavesUnderGreater);
+            self.observe_scan(before, response, after);
         }
+    }
+
+    /// Counts what a word done in transfer mode 2 meets.
+    fn observe_enhanced_word(&mut self, camac: &Camac, response: &Response) {
+        match mode(camac) {
+            Mode::Enhanced => {
+                let event = Event::EnhancedWrite(q_number(camac));
+                self.met_if(writes(camac), event);
+            }
+            Mode::Sequencer => {
+                self.met_if(reads(camac), Event::SequencerRead);
+                self.met_if(writes(camac), Event::SequencerWrite);
+                self.met_if(!response.q, Event::SequencerNoQ);
+            }
+            Mode::Single | Mode::Block | Mode::Inline => {}
+        }
+    }
+
+    fn observe_scan(&mut self, before: &Record, response: &Response, after: &Record) {
+        let code = status::code(after.status);
+        let on = !after.ended || code == 0;
+        let left = after.status & status::SCAN_LEFT != 0;
+        let done = response.q && response.x;
+        let last_word = before.words_left == 1;
+        let last_place = (before.n, before.a) == (23, 15);
+        self.met_if(on && done && before.a == 15 && !last_word, Event::ScanWraps);
+        self.met_if(on && !done, Event::ScanSkips);
+        let finishes = done && last_word && last_place;
+        self.met_if(on && finishes, Event::ScanFinishesLast);
+        self.met_if(code == 0xA && finishes, Event::ScanFinishesWithParity);
+        self.met_if(left && done && code == 9, Event::ScanLeavesMoved);
+        self.met_if(left && !done && code == 9, Event::ScanLeavesSkipping);
+        self.met_if(left && code > 9, Event::ScanLeavesUnderGreater);
     }
 
     fn observe_pad(&mut self, camac: &Camac, before: &Record) {
@@ -414,6 +489,16 @@ fn of_operations() -> impl Iterator<Item = Event> {
     let done = modes.map(|mode| (0..4).map(move |q_mode| Event::Done(mode, q_mode)));
     let again = modes.map(|mode| (2..4).map(move |q_mode| Event::Again(mode, q_mode)));
     let plain = [
+        Event::Done(Mode::Enhanced, 0),
+        Event::Done(Mode::Enhanced, 1),
+        Event::Done(Mode::Enhanced, 2),
+        Event::Again(Mode::Enhanced, 2),
+        Event::EnhancedWrite(0),
+        Event::EnhancedWrite(1),
+        Event::SequencerRead,
+        Event::SequencerWrite,
+        Event::SequencerNoQ,
+        Event::SequencerNoX,
         Event::ControlWord,
         Event::IncomingPad,
         Event::OutgoingPad,
@@ -434,6 +519,23 @@ fn of_operations() -> impl Iterator<Item = Event> {
     ends.into_iter().chain(modes).chain(plain)
 }
 
+/// The events of words of transfer mode 2 that are refused.
+fn of_enhanced_words() -> impl Iterator<Item = Event> {
+    let faults = [
+        EnhancedFault::Control,
+        EnhancedFault::RepeatWrite,
+        EnhancedFault::SequencerStation,
+        EnhancedFault::SequencerFunction,
+        EnhancedFault::SequencerSubaddress,
+    ];
+    let plain = [
+        Event::EnhancedLength,
+        Event::SequencerAddress,
+        Event::SequencerCount,
+    ];
+    plain.into_iter().chain(faults.map(Event::Enhanced))
+}
+
 /// True if the record after an answer still wants the same word.
 fn same_word(before: &Record, after: &Record) -> bool {
     !after.ended && (after.instruction, after.words_left) == (before.instruction, before.words_left)
@@ -443,6 +545,8 @@ fn mode(camac: &Camac) -> Mode {
     match camac.transfer {
         Transfer::Single => Mode::Single,
         Transfer::Block { .. } => Mode::Block,
+        Transfer::Enhanced { .. } => Mode::Enhanced,
+        Transfer::Sequencer { .. } => Mode::Sequencer,
         Transfer::Inline { .. } => Mode::Inline,
     }
 }

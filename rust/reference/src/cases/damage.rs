@@ -1,7 +1,7 @@
 //! Lists damaged by one change, and now and then by a second one, so that the order of
 //! refusals shows.
 
-use super::lists::{Draft, DraftField, BITS_16, BLOCK, INLINE};
+use super::lists::{Draft, DraftField, BITS_16, BLOCK, ENHANCED, INLINE, MODE};
 use super::rng::Rng;
 
 /// The bytes of a list after a change: aimed at a refusal, or anywhere.
@@ -107,6 +107,9 @@ fn damage_camac(rng: &mut Rng, draft: &mut Draft) {
     }
     let index = rng.pick(&camacs);
     let field = &mut draft.fields[index];
+    if field.mode() == ENHANCED && rng.coin() {
+        return damage_enhanced(rng, field);
+    }
     match rng.below(4) {
         0 => damage_zero_bit(rng, field),
         1 => damage_address(rng, field),
@@ -123,10 +126,11 @@ fn damage_zero_bit(rng: &mut Rng, field: &mut DraftField) {
 fn damage_address(rng: &mut Rng, field: &mut DraftField) {
     let first = field.first();
     let without_station = first & !(31 << 25);
-    field.set_first(match rng.below(4) {
+    field.set_first(match rng.below(5) {
         0 => first & !(63 << 8),
         1 => first | 63 << 8,
         2 => without_station | 30 << 25,
+        3 => without_station | rng.pick(&[1, 22, 23]) << 25,
         _ => without_station | rng.pick(&[0, 24, 29, 31]) << 25,
     });
 }
@@ -134,12 +138,23 @@ fn damage_address(rng: &mut Rng, field: &mut DraftField) {
 fn damage_mode(rng: &mut Rng, field: &mut DraftField) {
     let first = field.first();
     match rng.below(3) {
-        0 => field.set_first((first & !INLINE) | (rng.below(4) as u32 * BLOCK)),
+        0 => field.set_first((first & !MODE) | (rng.below(4) as u32 * BLOCK)),
         1 => field.set_first(first ^ rng.pick(&[8, 16]) << 16),
         _ => {
             let length = if field.body.len() == 4 { 8 } else { 4 };
             field.body.resize(length, 0xFF);
         }
+    }
+}
+
+/// For refusal 8 in transfer mode 2: another Q-mode, F or A, or the other length.
+fn damage_enhanced(rng: &mut Rng, field: &mut DraftField) {
+    let first = field.first();
+    match rng.below(4) {
+        0 => field.set_first(first ^ (rng.within(1..=3) as u32) << 3),
+        1 => field.set_first(first ^ 1 << rng.within(16..=20)),
+        2 => field.set_first(first ^ 1 << rng.within(22..=24)),
+        _ => field.body.truncate(4),
     }
 }
 

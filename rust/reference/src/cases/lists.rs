@@ -4,8 +4,15 @@ use super::rng::Rng;
 use crate::scan::Position;
 
 pub const BLOCK: u32 = 1 << 5;
+pub const ENHANCED: u32 = 2 << 5;
 pub const INLINE: u32 = 3 << 5;
 pub const BITS_16: u32 = 1 << 1;
+/// Where transfer mode and Q-mode lie.
+pub const MODE: u32 = 3 << 5;
+pub const Q_MODE: u32 = 3 << 3;
+
+const REPEAT: u32 = 2;
+const SCAN: u32 = 3;
 
 /// A field to be written: tag and body; the length is the body's.
 #[derive(Clone, Debug, PartialEq, Eq)]
@@ -51,7 +58,7 @@ impl DraftField {
 
     /// Bits 6 and 5 of a CAMAC field, where they lie.
     pub fn mode(&self) -> u32 {
-        self.first() & INLINE
+        self.first() & MODE
     }
 }
 
@@ -178,29 +185,62 @@ fn worker(rng: &mut Rng) -> DraftField {
     }
 }
 
-/// A CAMAC instruction of any carried transfer mode and Q-mode.
+/// A CAMAC instruction of any transfer mode and Q-mode.
 pub fn camac(rng: &mut Rng) -> DraftField {
+    if rng.once_in(4) {
+        return enhanced(rng);
+    }
     let q_mode = rng.below(4) as u32;
-    let scans = q_mode == 3;
+    let scans = q_mode == SCAN;
     let position = position(rng, scans);
     let first = naf(rng, position) | q_mode << 3 | rng.below(4) as u32;
-    let sixteen = first & BITS_16 != 0;
     match rng.below(3) {
         0 => DraftField::camac(first | any_function(rng), None),
         1 => {
             let words = block_words(rng, scans, position);
-            let halfwords = if sixteen { words } else { 2 * words };
-            let second = (halfwords as u32).wrapping_neg();
-            let function = rng.pick(&[0, 16]) + rng.below(8) as u32;
-            DraftField::camac(first | BLOCK | function << 16, Some(second))
+            block(first | BLOCK | read_or_write(rng), words)
         }
         _ => {
+            let sixteen = first & BITS_16 != 0;
             let mask = if sixteen { 0xFFFF } else { 0xFF_FFFF };
             let function = 16 + rng.below(8) as u32;
             let data = rng.number() as u32 & mask;
             DraftField::camac(first | INLINE | function << 16, Some(data))
         }
     }
+}
+
+/// A block of either kind.
+fn block(first: u32, words: u64) -> DraftField {
+    let sixteen = first & BITS_16 != 0;
+    let halfwords = if sixteen { words } else { 2 * words };
+    DraftField::camac(first, Some((halfwords as u32).wrapping_neg()))
+}
+
+/// An enhanced block: stop or ignore, repeat for reads, or the list sequencer.
+fn enhanced(rng: &mut Rng) -> DraftField {
+    let q_mode = rng.below(4) as u32;
+    let (position, function) = match q_mode {
+        SCAN => (sequencer_position(rng), 12 << 16),
+        REPEAT => (position(rng, false), (rng.below(8) as u32) << 16),
+        _ => (position(rng, false), read_or_write(rng)),
+    };
+    let words = block_words(rng, false, position);
+    let first = naf(rng, position) | function | q_mode << 3 | rng.below(4) as u32;
+    block(first | ENHANCED, words)
+}
+
+/// N 30 and the number of one of the sequencer's four lists.
+fn sequencer_position(rng: &mut Rng) -> Position {
+    Position {
+        station: 30,
+        subaddress: rng.below(4),
+    }
+}
+
+/// A function that reads or writes, in its place in the word.
+fn read_or_write(rng: &mut Rng) -> u32 {
+    (rng.pick(&[0, 16]) + rng.below(8) as u32) << 16
 }
 
 /// Any function, in its place in the word.
@@ -249,7 +289,7 @@ fn block_words(rng: &mut Rng, scans: bool, position: Position) -> u64 {
 
 /// A list at one of document 01's limits; not all of them are valid.
 pub fn edge(rng: &mut Rng) -> Draft {
-    match rng.below(9) {
+    match rng.below(10) {
         0 => Draft::new(3, full_list(rng, 4_096)),
         1 => Draft::new(3, full_list(rng, 4_097)),
         2 | 3 => Draft::new(try_limit(rng), largest_block(rng)),
@@ -257,6 +297,7 @@ pub fn edge(rng: &mut Rng) -> Draft {
         5 => Draft::new(rng.pick(&[1, 65_535]), largest_counts(rng)),
         6 => Draft::new(3, long_walk()),
         7 => Draft::new(3, whole_scan(rng)),
+        8 => Draft::new(3, vec![long_sequencer(rng), DraftField::halt()]),
         _ => Draft::new(3, vec![long_field(rng), DraftField::halt()]),
     }
 }
@@ -284,7 +325,8 @@ fn full_list(rng: &mut Rng, count: usize) -> Vec<DraftField> {
 /// A block of H = 65,536, or one halfword beside it.
 fn largest_block(rng: &mut Rng) -> Vec<DraftField> {
     let halfwords = rng.pick(&[65_536_u32, 65_536, 65_535, 65_537]);
-    let first = 0x0C00_0300 | BLOCK | rng.pick(&[0, 16]) << 16;
+    let mode = rng.pick(&[BLOCK, BLOCK, ENHANCED]);
+    let first = 0x0C00_0300 | mode | rng.pick(&[0, 16]) << 16;
     let modes = rng.below(3) as u32 * 8 + rng.below(4) as u32;
     let block = DraftField::camac(first | modes, Some(halfwords.wrapping_neg()));
     vec![worker(rng), block, DraftField::halt()]
@@ -326,6 +368,14 @@ fn whole_scan(rng: &mut Rng) -> Vec<DraftField> {
     let first = 1 << 25 | 0x011A | BLOCK | rng.pick(&[0, 16]) << 16;
     let scan = DraftField::camac(first | rng.below(2) as u32, Some(words.wrapping_neg()));
     vec![scan, DraftField::halt()]
+}
+
+/// A sequencer of more words than a scan's 368 positions, up to H = 65,536.
+fn long_sequencer(rng: &mut Rng) -> DraftField {
+    let position = sequencer_position(rng);
+    let first = naf(rng, position) | 12 << 16 | SCAN << 3 | rng.below(4) as u32;
+    let words = rng.pick(&[369, 400, 1_024, 32_768]);
+    block(first | ENHANCED, words)
 }
 
 /// A field with the longest body.

@@ -1,9 +1,26 @@
 //! The cases of documents 01 and 02 and the manual's examples (001), with the outcomes that
-//! the papers give; K1 to K12 are document 01's names, M01 to M70 number the examples. Any engine with
-//! the two calls of the C interface can be held against them.
+//! the papers give; K1 to K12 are document 01's names, M01 to M70 number the examples. Any
+//! engine with the calls of the C interface can be held against them.
 
 use super::by_hand::*;
 use crate::camrun::MOST_BYTES;
+
+/// List, both buffer lengths.
+type Admit = fn(&[u8], u64, u64) -> [u64; 5];
+/// List, incoming, outgoing, row.
+type Run = fn(&[u8], &mut [u8], &[u8], &[u8]) -> [u64; 16];
+/// List, incoming, outgoing, record, which is written.
+type Start = fn(&[u8], &mut [u8], &[u8], &mut [u64; 13]) -> [u64; 8];
+/// List, record, incoming, outgoing, reply.
+type Step = fn(&[u8], &mut [u64; 13], &mut [u8], &[u8], &[u8]) -> [u64; 8];
+
+/// An engine's calls, in the numbers of the C interface.
+pub struct Engine {
+    pub admit: Admit,
+    pub run: Run,
+    pub start: Start,
+    pub step: Step,
+}
 
 /// One case and its outcome, in camrun's words.
 pub struct Known {
@@ -16,6 +33,7 @@ pub struct Known {
     ending: Option<String>,
     stored: Option<Vec<u8>>,
     positions: Vec<(u64, u64)>,
+    wanted: Option<[u64; 6]>,
 }
 
 /// What the incoming buffer holds before a run.
@@ -33,6 +51,7 @@ impl Known {
             ending: None,
             stored: None,
             positions: Vec::new(),
+            wanted: None,
         }
     }
 
@@ -70,18 +89,46 @@ impl Known {
         Known { positions, ..self }
     }
 
-    /// Holds an engine's two calls against the case.
-    pub fn check(
-        &self,
-        admit: impl Fn(&[u8], u64, u64) -> [u64; 5],
-        run: impl Fn(&[u8], &mut [u8], &[u8], &[u8]) -> [u64; 16],
-    ) {
+    /// With crate, N, A, F, data and "enhanced" of the operation wanted behind the row.
+    fn wants(self, wanted: [u64; 6]) -> Known {
+        let wanted = Some(wanted);
+        Known { wanted, ..self }
+    }
+
+    /// Holds an engine against the case.
+    pub fn check(&self, engine: &Engine) {
         let lengths = (self.incoming_len as u64, self.outgoing.len() as u64);
-        let admission = admit(&self.list, lengths.0, lengths.1);
+        let admission = (engine.admit)(&self.list, lengths.0, lengths.1);
         assert_eq!(admission_line(&admission), self.admission, "{}", self.name);
+        self.check_run(engine, &admission);
+        if let Some(wanted) = self.wanted {
+            assert_eq!(self.wanted_by(engine), wanted, "{}", self.name);
+        }
+    }
+
+    /// The operation that start and a step for each reply come to.
+    fn wanted_by(&self, engine: &Engine) -> [u64; 6] {
+        let mut incoming = vec![UNTOUCHED; self.incoming_len];
+        let mut record = [0; 13];
+        let mut answer = (engine.start)(&self.list, &mut incoming, &self.outgoing, &mut record);
+        for reply in self.row.chunks(8) {
+            answer = (engine.step)(
+                &self.list,
+                &mut record,
+                &mut incoming,
+                &self.outgoing,
+                reply,
+            );
+        }
+        let [number, place, wanted @ ..] = answer;
+        assert_eq!((number, place), (0, 0), "{}", self.name);
+        wanted
+    }
+
+    fn check_run(&self, engine: &Engine, admission: &[u64; 5]) {
         let run = |row: &[u8]| {
             let mut incoming = vec![UNTOUCHED; self.incoming_len];
-            let numbers = run(&self.list, &mut incoming, &self.outgoing, row);
+            let numbers = (engine.run)(&self.list, &mut incoming, &self.outgoing, row);
             (numbers, incoming)
         };
         let (numbers, incoming) = run(&self.row);
@@ -145,13 +192,16 @@ fn repeat() -> Vec<u8> {
 pub fn document_01() -> Vec<Known> {
     let case = Known::new;
     vec![
-        case("K1", one(&single(0x0200_0102)), "admitted 1 2 0").at(&[(1, 0)]),
+        case("K1", one(&single(0x0200_0102)), "admitted 1 2 0")
+            .at(&[(1, 0)])
+            .wants([1, 1, 0, 0, 0, 0]),
         case(
             "K2",
             one(&double(0x0E40_052A, 0xFFFF_FFFD)),
             "admitted 3 6 0",
         )
-        .at(&[(7, 2)]),
+        .at(&[(7, 2)])
+        .wants([5, 7, 2, 0, 0, 0]),
         case("K3", scan(1), "admitted 2 4 0").at(&[(22, 14)]),
         case("K4", scan(4), "admitted 5 16 0"),
         case("K5", scan(17), "admitted 18 68 0"),
@@ -172,7 +222,67 @@ pub fn document_01() -> Vec<Known> {
 
 /// Document 02's requests that have landed, in worked examples.
 pub fn document_02() -> Vec<Known> {
-    pads()
+    let requests = [pads(), sequencers(), enhanced_blocks()];
+    requests.into_iter().flatten().collect()
+}
+
+/// E1: the list sequencer, R = 1.
+fn sequencers() -> Vec<Known> {
+    let of = |name, field: String, line| Known::new(name, list_with(1, &(field + HALT)), line);
+    let (read, write) = (0x3C0C_0158, 0x3C4C_0158);
+    let no_x = double(read, 0xFFFF_FFFE);
+    let many = double(read, 0xFFFF_FCE0);
+    let station = double(0x2C0C_015A, 0xFFFF_FFFF);
+    let standard = double(0x3C0C_013A, 0xFFFF_FFFF);
+    let ignore = double(0x3C0C_014A, 0xFFFF_FFFF);
+    let no_q = double(0x3C2C_015A, 0xFFFF_FFFE);
+    vec![
+        of("E1, X = 0", no_x, "admitted 1 4 0")
+            .run(answers(&[Q]), "end 8 80020080 1 0")
+            .at(&[(30, 0)])
+            .wants([0; 6]),
+        // P isn't asked, and 23 - 30 would wrap.
+        of("E1, 400 words", many, "admitted 400 1600 0").wants([1, 30, 0, 12, 0, 1]),
+        of("E1, A 2", double(write, 0xFFFF_FFFE), "admitted 1 0 4")
+            .outgoing(hex("78 56 34 FF"))
+            .run(Vec::new(), "waiting 0 0")
+            .wants([1, 30, 2, 12, 3_430_008, 1]),
+        of("E1, N 22", station, "refused 8 7"),
+        of("E1, a standard block at N 30", standard, "refused 7 7"),
+        of("E1, length 4", single(0x3C0C_015A), "refused 8 7"),
+        of("E1, F 12 with Q-mode 1", ignore, "refused 8 7"),
+        // By ignore's rules, one operation a word.
+        of("E1, Q = 0", no_q, "admitted 2 4 0")
+            .run(
+                [answer(X, 0x1234), answer(X, 0x5678)].concat(),
+                "end 0 00010080 2 4",
+            )
+            .at(&[(30, 1), (30, 1)])
+            .stores("34 12 78 56"),
+    ]
+}
+
+/// E1: enhanced blocks, R = 3.
+fn enhanced_blocks() -> Vec<Known> {
+    let of = |name, field: String, line| Known::new(name, one(&field), line);
+    let read = double(0x0200_0150, 0xFFFF_FFFE);
+    let write = double(0x0210_0150, 0xFFFF_FFFE);
+    let block = double(0x0200_0140, 0xFFFF_FFFE);
+    vec![
+        of("E1, repeat read", read, "admitted 3 4 0")
+            .run(answers(&[X]), "waiting 1 0")
+            .wants([1, 1, 0, 0, 0, 1]),
+        of("E1, repeat write", write, "refused 8 7"),
+        // The sixth number is 0 again behind the enhanced block.
+        of(
+            "E1, a block and a single",
+            block + &single(0x0200_0102),
+            "admitted 2 6 0",
+        )
+        .run(oks(&[0x12_3456]), "waiting 1 4")
+        .stores("56 34 12 00")
+        .wants([1, 1, 0, 0, 0, 0]),
+    ]
 }
 
 /// E3: "The pad bytes and every answer are as before".
@@ -333,24 +443,37 @@ fn transfer_counts() -> Vec<Known> {
     ]
 }
 
-/// "Enhanced List Sequencer Modes" and the words of enhanced blocks: not carried.
+/// "Enhanced List Sequencer Modes" and the words of enhanced blocks.
 fn enhanced_words() -> Vec<Known> {
-    let refused = |name, first, count, line| Known::new(name, one(&double(first, count)), line);
+    let of = |name, first, count, line| Known::new(name, one(&double(first, count)), line);
+    let read = |name, first, line| of(name, first, 0xFFFF_FFFE, line);
+    let write = |name, first, line| of(name, first, 0xFFFF_FFFE, line).outgoing(vec![0; 4]);
     vec![
-        refused("M31, A0", 0x3C0C_0158, 0xFFFF_FFFE, "refused 7 7"),
-        refused("M31, A1", 0x3C2C_0158, 0xFFFF_FFFE, "refused 7 7"),
-        refused("M31, A2", 0x3C4C_0158, 0xFFFF_FFFE, "refused 7 7"),
-        refused("M31, A3", 0x3C6C_0158, 0xFFFF_FFFE, "refused 7 7"),
-        refused("M31, A4", 0x3C8C_0158, 0xFFFF_FFFE, "refused 7 7"),
-        refused("M31, 16-bit", 0x3C0C_015A, 0xFFFF_FFFE, "refused 7 7"),
-        refused("M31, 512 words", 0x3C0C_0158, 0xFFFF_FC00, "refused 7 7"),
-        refused("M31, 1,024 words", 0x3C0C_0158, 0xFFFF_F800, "refused 7 7"),
-        refused("M32, stop", 0x0C02_0340, 0xFFFF_FFFE, "refused 8 7"),
-        refused("M32, ignore", 0x0C02_0348, 0xFFFF_FFFE, "refused 8 7"),
-        refused("M32, repeat", 0x0C02_0350, 0xFFFF_FFFE, "refused 8 7"),
-        refused("M33", 0x0C02_0358, 0xFFFF_FFFE, "refused 8 7"),
-        refused("repeat write", 0x0C10_0350, 0xFFFF_FFFE, "refused 8 7"),
-        refused("control", 0x0C18_0340, 0xFFFF_FFFE, "refused 8 7"),
+        read("M31, A0", 0x3C0C_0158, "admitted 1 4 0").wants([1, 30, 0, 12, 0, 1]),
+        read("M31, A1", 0x3C2C_0158, "admitted 1 4 0").wants([1, 30, 1, 12, 0, 1]),
+        write("M31, A2", 0x3C4C_0158, "admitted 1 0 4").wants([1, 30, 2, 12, 0, 1]),
+        write("M31, A3", 0x3C6C_0158, "admitted 1 0 4").wants([1, 30, 3, 12, 0, 1]),
+        write("M31, A4", 0x3C8C_0158, "refused 8 7"),
+        read("M31, 16-bit", 0x3C0C_015A, "admitted 2 4 0"),
+        // A full list of the module.
+        of(
+            "M31, 512 words",
+            0x3C0C_0158,
+            0xFFFF_FC00,
+            "admitted 512 2048 0",
+        ),
+        of(
+            "M31, 1,024 words",
+            0x3C0C_0158,
+            0xFFFF_F800,
+            "admitted 1024 4096 0",
+        ),
+        read("M32, stop", 0x0C02_0340, "admitted 1 4 0").wants([3, 6, 0, 2, 0, 1]),
+        read("M32, ignore", 0x0C02_0348, "admitted 1 4 0").wants([3, 6, 0, 2, 0, 1]),
+        read("M32, repeat", 0x0C02_0350, "admitted 3 4 0").wants([3, 6, 0, 2, 0, 1]),
+        read("M33", 0x0C02_0358, "refused 8 7"),
+        write("repeat write", 0x0C10_0350, "refused 8 7"),
+        read("control", 0x0C18_0340, "refused 8 7"),
     ]
 }
 

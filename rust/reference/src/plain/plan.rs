@@ -17,7 +17,8 @@ pub enum Entry {
     Halt,
 }
 
-/// A CAMAC instruction: its first longword, and the words wanted.
+/// A CAMAC instruction: its first longword, with ignore's Q-mode for the list sequencer,
+/// and the words wanted.
 #[derive(Clone, Copy)]
 pub struct Command {
     first: u32,
@@ -38,7 +39,16 @@ pub const SCAN: u32 = 3;
 
 const SINGLE: u32 = 0;
 const BLOCK: u32 = 1;
+const ENHANCED: u32 = 2;
 const INLINE: u32 = 3;
+
+/// The list sequencer: N 30, F 12 and A below 4, of which 2 and 3 write.
+const SEQUENCER: u32 = 30 << 25 | 12 << 16;
+const SEQUENCER_MASK: u32 = 31 << 25 | 31 << 16 | 3 << 23;
+const SEQUENCER_WRITES: u32 = 1 << 22;
+
+/// Set in the sequencer's Q-mode 3, clear in ignore's 1.
+const NOT_IGNORE: u32 = 1 << 4;
 
 impl Command {
     pub fn q_mode(self) -> u32 {
@@ -64,8 +74,22 @@ impl Command {
         u64::from(self.first >> 21 & 0x1FF)
     }
 
+    /// What a control function moves: nothing, but in the list sequencer.
+    fn moves_by_subaddress(self) -> Moves {
+        if mode(self.first) != ENHANCED {
+            Moves::Nothing
+        } else if self.first & SEQUENCER_WRITES != 0 {
+            Moves::Out
+        } else {
+            Moves::In
+        }
+    }
+
     pub fn moves(self) -> Moves {
-        if is_control(self.first) || mode(self.first) == INLINE {
+        if is_control(self.first) {
+            return self.moves_by_subaddress();
+        }
+        if mode(self.first) == INLINE {
             Moves::Nothing
         } else if is_write(self.first) {
             Moves::Out
@@ -96,7 +120,10 @@ impl Command {
             return Err(6);
         }
         let (crate_number, station) = (first >> 8 & 63, first >> 25);
-        let scans = first >> 3 & 3 == SCAN;
+        let (scans, sequences) = match first >> 3 & 3 {
+            SCAN => (mode(first) != ENHANCED, mode(first) == ENHANCED),
+            _ => (false, false),
+        };
         if !(1..=62).contains(&crate_number)
             || !(1..=23).contains(&station) && (station != 30 || scans)
         {
@@ -105,12 +132,17 @@ impl Command {
         let words = match (mode(first), second) {
             (SINGLE, None) => 1,
             (BLOCK, Some(second)) if !is_control(first) => block_words(first, second)?,
+            (ENHANCED, Some(second)) if is_enhanced(first) => block_words(first, second)?,
             (INLINE, Some(second)) if !is_control(first) && is_write(first) => {
                 inline_words(first, second)?
             }
             _ => return Err(8),
         };
-        let command = Command { first, words };
+        let mask = if sequences { !NOT_IGNORE } else { !0 };
+        let command = Command {
+            first: first & mask,
+            words,
+        };
         if scans && u64::from(words) > command.position().positions() {
             return Err(9);
         }
@@ -128,6 +160,15 @@ fn is_control(first: u32) -> bool {
 
 fn is_write(first: u32) -> bool {
     first & 1 << 20 != 0
+}
+
+/// Whether a word of transfer mode 2 is carried.
+fn is_enhanced(first: u32) -> bool {
+    match first >> 3 & 3 {
+        SCAN => first & SEQUENCER_MASK == SEQUENCER,
+        REPEAT => !is_control(first) && !is_write(first),
+        _ => !is_control(first),
+    }
 }
 
 fn block_words(first: u32, second: u32) -> Result<u32, u8> {

@@ -22,6 +22,15 @@ direction-of-requires-2 c κs = search needs
 outgoing-word-requires-2 : tie.Need-outgoing-word-requires-2
 outgoing-word-requires-2 c κs = search needs
 
+enum-told-3 : tie.Need-enum-told-3
+enum-told-3 c = search needs
+
+direction-of-requires-3 : tie.Need-direction-of-requires-3
+direction-of-requires-3 c κs = search needs
+
+outgoing-word-requires-3 : tie.Need-outgoing-word-requires-3
+outgoing-word-requires-3 c κs = search needs
+
 enum-known-t : tie.Need-enum-known-t
 enum-known-t c = search needs
 
@@ -35,7 +44,11 @@ returns-2 c = simp (c .outgoing-word2 .ensures, c .before .direction-of2 .ensure
 
 returns-3 : tie.Need-returns-3
 unfolding wordWanted
-returns-3 c = simp (c .before .t .given .1)
+returns-3 c = simp (c .outgoing-word3 .ensures, c .before .direction-of3 .ensures, c .before .before .enum-told3 .given .1)
+
+returns-4 : tie.Need-returns-4
+unfolding wordWanted
+returns-4 c = simp (c .before .t .given .1)
 
 pub word-wanted-spec : {M : Type 1} → statement M
 word-wanted-spec =
@@ -47,7 +60,11 @@ word-wanted-spec =
     enum-told-2
     direction-of-requires-2
     outgoing-word-requires-2
+    enum-told-3
+    direction-of-requires-3
+    outgoing-word-requires-3
     enum-known-t
     returns
     returns-2
-    returns-3)
+    returns-3
+    returns-4)

@@ -1,6 +1,6 @@
 -- `words_in` is `wordsOf` the instruction: only a block wants more than one.
-use borrow.Author.Needs.{needs}
 use Rattle.camac.proofs.BitLaws.{command-words}
+use borrow.Author.Needs.{needs}
 use Rattle.camac.proofs.bits.words_in.Statement.{statement}
 use Rattle.camac.proofs.bits.words_in.Tie as tie
 

@@ -1,6 +1,6 @@
 -- `address_of` is `addressOf`, by the variant matched.
-use borrow.Author.Needs.{needs}
 use Rattle.camac.specs.Words.{addressOf}
+use borrow.Author.Needs.{needs}
 use Rattle.camac.proofs.words.address_of.Statement.{statement}
 use Rattle.camac.proofs.words.address_of.Tie as tie
 
@@ -12,6 +12,9 @@ enum-known-t-2 c = search needs
 
 enum-known-t-3 : tie.Need-enum-known-t-3
 enum-known-t-3 c = search needs
+
+enum-known-t-4 : tie.Need-enum-known-t-4
+enum-known-t-4 c = search needs
 
 returns : tie.Need-returns
 unfolding addressOf
@@ -25,6 +28,19 @@ returns-3 : tie.Need-returns-3
 unfolding addressOf
 returns-3 c = simp (c .before .t3 .given .1)
 
+returns-4 : tie.Need-returns-4
+unfolding addressOf
+returns-4 c = simp (c .before .t4 .given .1)
+
 pub address-of-spec : {M : Type 1} → statement M
 address-of-spec =
-    tie.close (tie.spec enum-known-t enum-known-t-2 enum-known-t-3 returns returns-2 returns-3)
+    tie.close
+    (tie.spec
+    enum-known-t
+    enum-known-t-2
+    enum-known-t-3
+    enum-known-t-4
+    returns
+    returns-2
+    returns-3
+    returns-4)

@@ -5,8 +5,8 @@ use borrow.Author.Tests.{eq-eqb, ne-eqb}
 use lib.Dec.{eqb}
 use mathlib.Core.Bool.{false, _&&_}
 use Rattle.base.specs.Checks.{if_then_else_}
-use Rattle.camac.specs.Words.{zeroBitSet, badAddress, badMode, isScanIn, aboveP, commandIn, camacFault}
-use Rattle.camac.proofs.BitLaws.{single-fault}
+use Rattle.camac.specs.Words.{modeIn, qmodeBits, zeroBitSet, badAddress, badMode, aboveP, commandIn, camacFault}
+use Rattle.camac.proofs.BitLaws.{scan-clause, single-fault}
 use Rattle.camac.proofs.words.camac_fault.Statement.{statement}
 use Rattle.camac.proofs.words.camac_fault.Tie as tie
 
@@ -26,6 +26,9 @@ single c =
     single-fault _ _ _ (passes-6 (c .before .before .before .before)) (passes-7 (c .before .before))
     (sym (c .before .mode-in .ensures) ∙ c .if3 .taken)
 
+no-single : (c : tie.Else3) → ¬ (modeIn (c .before .before .before .before .before .before .args .first) ≡ 0)
+no-single c e = c .if3 .left (c .before .mode-in .ensures ∙ e)
+
 passes-8 :
     (c : tie.Else5)
     → badMode (c .before .before .before .before .before .before .before .before .args .length)
@@ -40,7 +43,7 @@ start c = c .before .before .before .before .before .before .before .before .bef
 only-n-above-p :
     (c : tie.Else6)
     → camacFault (start c .args .length) (start c .args .first) (start c .args .second)
-    ≡ (if isScanIn (start c .args .first) && aboveP (commandIn (start c .args .first) (start c .args .second) .transfer) then 9 else 0)
+    ≡ (if (eqb (modeIn (start c .args .first)) 1 && eqb (qmodeBits (start c .args .first)) 3) && aboveP (commandIn (start c .args .first) (start c .args .second) .transfer) then 9 else 0)
 unfolding camacFault
 only-n-above-p c =
     rw (
@@ -48,6 +51,7 @@ only-n-above-p c =
       passes-7 (c .before .before .before .before .before .before),
       passes-8 (c .before .before),
       sym (c .before .is-bad-second .ensures) ∙ c .if6 .left,
+      scan-clause (start c .args .first) (start c .args .second),
     )
 
 is-zero-bit-set-requires : tie.Need-is-zero-bit-set-requires
@@ -74,7 +78,7 @@ returns-4 : tie.Need-returns-4
 returns-4 c = rw (single (c .before), ne-eqb _ _ (c .if4 .left))
 
 is-bad-mode-requires : tie.Need-is-bad-mode-requires
-is-bad-mode-requires c κs = search needs
+is-bad-mode-requires c κs = no-single c
 
 returns-5 : tie.Need-returns-5
 unfolding camacFault
@@ -87,7 +91,7 @@ returns-5 c =
     )
 
 is-bad-second-requires : tie.Need-is-bad-second-requires
-is-bad-second-requires c κs = search needs
+is-bad-second-requires c κs = no-single (c .before .before)
 
 returns-6 : tie.Need-returns-6
 unfolding camacFault
@@ -100,14 +104,8 @@ returns-6 c =
       c .if6 .taken,
     )
 
-qmode-in-requires : tie.Need-qmode-in-requires
-qmode-in-requires c κs = search needs
-
-is-scan-requires : tie.Need-is-scan-requires
-is-scan-requires c κs = search needs
-
-command-in-requires : tie.Need-command-in-requires
-command-in-requires c κs = search needs
+is-scan-block-requires : tie.Need-is-scan-block-requires
+is-scan-block-requires c κs = search needs
 
 is-above-p-requires : tie.Need-is-above-p-requires
 is-above-p-requires c κs = search needs
@@ -115,11 +113,9 @@ is-above-p-requires c κs = search needs
 returns-7 : tie.Need-returns-7
 returns-7 c =
     rw (
-      only-n-above-p (c .before .before .before .before .before .before),
-      ← c .before .before .before .before .before .qmode-in .ensures,
-      ← c .before .before .before .before .is-scan .ensures,
-      c .before .before .before .if7 .taken,
-      ← c .before .before .command-in .ensures,
+      only-n-above-p (c .before .before .before .before),
+      ← c .before .before .before .is-scan-block .ensures,
+      c .before .before .if7 .taken,
       ← c .before .is-above-p .ensures,
       c .if8 .taken,
     )
@@ -127,22 +123,15 @@ returns-7 c =
 returns-8 : tie.Need-returns-8
 returns-8 c =
     rw (
-      only-n-above-p (c .before .before .before .before .before .before),
-      ← c .before .before .before .before .before .qmode-in .ensures,
-      ← c .before .before .before .before .is-scan .ensures,
-      c .before .before .before .if7 .taken,
-      ← c .before .before .command-in .ensures,
+      only-n-above-p (c .before .before .before .before),
+      ← c .before .before .before .is-scan-block .ensures,
+      c .before .before .if7 .taken,
       ← c .before .is-above-p .ensures,
       c .if8 .left,
     )
 
 returns-9 : tie.Need-returns-9
-returns-9 c = rw (
-  only-n-above-p (c .before .before .before),
-  ← c .before .before .qmode-in .ensures,
-  ← c .before .is-scan .ensures,
-  c .if7 .left,
-)
+returns-9 c = rw (only-n-above-p (c .before .before), ← c .before .is-scan-block .ensures, c .if7 .left)
 
 pub camac-fault-spec : {M : Type 1} → statement M
 camac-fault-spec =
@@ -159,9 +148,7 @@ camac-fault-spec =
     returns-5
     is-bad-second-requires
     returns-6
-    qmode-in-requires
-    is-scan-requires
-    command-in-requires
+    is-scan-block-requires
     is-above-p-requires
     returns-7
     returns-8

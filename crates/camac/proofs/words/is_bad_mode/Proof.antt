@@ -1,15 +1,28 @@
--- `is_bad_mode` is `badMode`: what is left of its tests in each mode is what the code tests there.
-use borrow.Author.Needs.{needs}
-use mathlib.Core.Path.{_≡_}
-use mathlib.Core.Bool.{or-false, or-true}
+-- `is_bad_mode` is `badMode`: what is left of its tests in each mode but 0 is what the code tests there.
+use Prim.Native.Nat.{ℕ}
+use mathlib.Core.Path.{_≡_, sym, _∙_}
+use mathlib.Core.Bool.{Bool, _&&_, _||_, not, or-false}
 use native.Mathlib.Omega.{arith}
 use borrow.Author.Tests.{ne-eqb}
+use lib.Dec.{eqb}
+use Rattle.base.specs.Checks.{if_then_else_}
 use Rattle.camac.specs.Words.{modeIn}
+use borrow.Author.Needs.{needs}
 use Rattle.camac.proofs.words.is_bad_mode.Statement.{statement}
 use Rattle.camac.proofs.words.is_bad_mode.Tie as tie
 
-mode-two : (c : tie.Else4) → modeIn (c .before .before .before .before .before .before .args .first) ≡ 2
-mode-two c = omega (arith, c .before .before .before .before .mode-in .ensures)
+eight : (c : tie.Else1) → c .before .before .before .args .length ≡ 8
+eight c = omega (arith, c .if1 .left)
+
+in-two : (mode : ℕ) (control enhanced inline : Bool) → mode ≡ 2
+    → not (eqb 8 (if eqb mode 0 then 4 else 8)) || (eqb mode 1 && control || (eqb mode 2 && enhanced || (eqb mode 3 && inline))) ≡ enhanced
+in-two mode control enhanced inline m = rw m (or-false enhanced)
+
+mode-two : (c : tie.Else3) → modeIn (c .before .before .before .before .before .args .first) ≡ 2
+mode-two c =
+    let e = c .before .before .before .mode-in .ensures in
+    let p = c .before .before .before .before .before .pre in
+    omega arith
 
 address-in-requires : tie.Need-address-in-requires
 address-in-requires c κs = search needs
@@ -18,40 +31,40 @@ mode-in-requires : tie.Need-mode-in-requires
 mode-in-requires c κs = search needs
 
 returns : tie.Need-returns
-returns c = simp (← c .before .mode-in .ensures, c .if1 .taken, or-false)
-
-returns-2 : tie.Need-returns-2
-returns-2 c = simp (← c .before .before .mode-in .ensures, ne-eqb _ _ (c .before .if1 .left), ne-eqb _ _ (c .if2 .taken), or-true)
+returns c = simp (ne-eqb _ _ (c .before .before .before .pre), ne-eqb (c .before .before .before .args .length) 8 (λ e. omega (arith, c .if1 .taken)))
 
 is-control-requires : tie.Need-is-control-requires
 is-control-requires c κs = search needs
 
-returns-3 : tie.Need-returns-3
-returns-3 c =
-    simp (
-      ← c .before .before .before .before .mode-in .ensures,
-      c .before .if3 .taken,
-      c .before .before .if2 .left,
-      ← c .before .before .before .before .before .address-in .ensures,
+returns-2 : tie.Need-returns-2
+returns-2 c =
+    rw (
+      sym (c .before .before .before .mode-in .ensures) ∙ c .before .if2 .taken,
+      eight (c .before .before),
+      ← c .before .before .before .before .address-in .ensures,
       ← c .is-control .ensures,
-      or-false,
     )
+    (sym (or-false _))
 
 is-write-requires : tie.Need-is-write-requires
 is-write-requires c κs = search needs
 
-returns-4 : tie.Need-returns-4
-returns-4 c =
-    simp (
-      ← c .before .before .before .before .before .mode-in .ensures,
-      c .before .if4 .taken,
-      c .before .before .before .if2 .left,
-      ← c .before .before .before .before .before .before .address-in .ensures,
+returns-3 : tie.Need-returns-3
+returns-3 c =
+    rw (
+      sym (c .before .before .before .before .mode-in .ensures) ∙ c .before .if3 .taken,
+      eight (c .before .before .before),
+      ← c .before .before .before .before .before .address-in .ensures,
       ← c .is-write .ensures,
     )
 
-returns-5 : tie.Need-returns-5
-returns-5 c = simp (mode-two c)
+is-bad-enhanced-requires : tie.Need-is-bad-enhanced-requires
+is-bad-enhanced-requires c κs = search needs
+
+returns-4 : tie.Need-returns-4
+returns-4 c =
+    rw (eight (c .before .before .before))
+    (c .is-bad-enhanced .ensures ∙ sym (in-two _ _ _ _ (mode-two (c .before))))
 
 pub is-bad-mode-spec : {M : Type 1} → statement M
 is-bad-mode-spec =
@@ -60,9 +73,9 @@ is-bad-mode-spec =
     address-in-requires
     mode-in-requires
     returns
-    returns-2
     is-control-requires
-    returns-3
+    returns-2
     is-write-requires
-    returns-4
-    returns-5)
+    returns-3
+    is-bad-enhanced-requires
+    returns-4)

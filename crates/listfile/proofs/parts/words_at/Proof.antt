@@ -3,9 +3,9 @@ use borrow.Author.Needs.{needs}
 use Prim.Native.Nat.{ℕ, _+_, _≤_}
 use mathlib.Core.Path.{_≡_, sym, ap, _∙_}
 use native.Mathlib.Omega.{arith}
-use borrow.Author.Tests.{eqb-true}
+use mathlib.Core.Bool.{true}
 use lib.ListN.{length}
-use Rattle.camac.specs.Words.{modeIn, commandIn, wordsOf}
+use Rattle.camac.specs.Words.{isBlockIn, commandIn, wordsOf}
 use Rattle.camac.proofs.BitLaws.{command-words}
 use Rattle.listfile.specs.Fields.{firstAt, secondAt}
 use Rattle.listfile.proofs.PartLaws.{block-inside, block-second}
@@ -15,9 +15,8 @@ use Rattle.listfile.proofs.parts.words_at.Tie as tie
 abbrev start : tie.Then1 → tie.Start
 start c = c .before .before .before
 
-block : (c : tie.Then1) → modeIn (firstAt (start c .args .list .now) (start c .args .at)) ≡ 1
-block c =
-    ap modeIn (sym (start c .pre .1 .1)) ∙ eqb-true (modeIn (start c .args .first)) 1 (sym (c .before .is-block .ensures) ∙ c .if1 .taken)
+block : (c : tie.Then1) → isBlockIn (firstAt (start c .args .list .now) (start c .args .at)) ≡ true
+block c = ap isBlockIn (sym (start c .pre .1 .1)) ∙ sym (c .before .is-block .ensures) ∙ c .if1 .taken
 
 inside : (c : tie.Then1) → start c .args .at + 11 ≤ length (start c .args .list .now)
 inside c = block-inside _ _ (start c .pre .0) (start c .pre .1 .0) (block c)

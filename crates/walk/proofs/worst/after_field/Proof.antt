@@ -1,13 +1,18 @@
--- `after_field` is `afterCommand` of the field's instruction: each part is what the bits say of it, by the direction.
-use borrow.Author.Needs.{needs}
-use mathlib.Core.Path.{sym, _∙_}
+-- `after_field` is `afterCommand` of the field's instruction: each part is what the bits say of it.
+use Prim.Native.Nat.{_^_, _≤_}
+use mathlib.Core.Path.{sym}
 use native.Mathlib.Omega.{arith}
-use Rattle.camac.specs.declared.words.Direction.the-variants.{Incoming, Outgoing, Neither}
-use Rattle.camac.proofs.BitLaws.{command-few, incoming, outgoing, neither}
+use Rattle.camac.proofs.BitLaws.{command-few}
 use Rattle.listfile.specs.Fields.{secondAt}
 use Rattle.walk.proofs.SumLaws.{field-sums}
+use borrow.Author.Needs.{needs}
 use Rattle.walk.proofs.worst.after_field.Statement.{statement}
 use Rattle.walk.proofs.worst.after_field.Tie as tie
+
+few : (c : tie.After-words-at) → c .words-at .result ≤ 2 ^ 32
+few c =
+    let start = c .before .before .before .before .args in
+    omega (arith, command-few (c .before .before .first-at .result) (secondAt (start .list .now) (start .at)), c .words-at .ensures)
 
 first-at-requires : tie.Need-first-at-requires
 first-at-requires c κs = search needs
@@ -25,49 +30,25 @@ start-in-requires : tie.Need-start-in-requires
 start-in-requires c κs = search needs
 
 worst-words-requires : tie.Need-worst-words-requires
-worst-words-requires c κs = (c .before .before .before .before .before .before .pre .0, omega (arith, command-few (c .before .before .before .before .first-at .result) (secondAt (c .before .before .before .before .before .before .args .list .now) (c .before .before .before .before .before .before .args .at)), c .before .before .words-at .ensures))
+worst-words-requires c κs = (c .before .before .before .before .before .before .pre .0, omega (arith, few (c .before .before)))
 
 add-worst : tie.Need-add-worst
 add-worst c = search needs
 
-reads-requires : tie.Need-reads-requires
-reads-requires c κs = c .before .before .before .before .before .before .first-at .ensures .1
+direction-in-requires : tie.Need-direction-in-requires
+direction-in-requires c κs = search needs
 
-mark-after-words-requires : tie.Need-mark-after-words-requires
-mark-after-words-requires c κs = (c .before .before .before .before .before .before .before .before .before .before .pre .1 .1 .1 .incoming, omega (arith, command-few (c .before .before .before .before .before .before .before .before .first-at .result) (secondAt (c .before .before .before .before .before .before .before .before .before .before .args .list .now) (c .before .before .before .before .before .before .before .before .before .before .args .at)), c .before .before .before .before .before .before .words-at .ensures))
+added-by-requires : tie.Need-added-by-requires
+added-by-requires c κs = (few (c .before .before .before .before .before), c .before .before .before .before .before .before .before .before .before .pre .1 .1 .1)
 
 returns : tie.Need-returns
 returns c =
-    let at-start = c .before .before .before .before .before .before .before .before .before .before .before in
-    let second = secondAt (at-start .args .list .now) (at-start .args .at) in
-    rw (c .mark-after-words .ensures, ← c .before .before .before .before .before .before .before .before .before .first-at .ensures .0)
-    (field-sums (at-start .args .limit) (c .before .before .before .before .before .before .before .before .before .first-at .result) second (at-start .args .s) _ _ _ _ _ Incoming (c .before .before .before .before .before .before .qmode-in .ensures) (c .before .before .before .before .before .start-in .ensures second)
-    (c .before .before .before .before .before .before .before .before .is-wide .ensures) (c .before .before .before .before .before .before .before .words-at .ensures) (c .before .before .before .before .worst-words .ensures .0)
-    (incoming _ (sym (c .before .before .reads .ensures second) ∙ c .before .if1 .taken)))
-
-writes-requires : tie.Need-writes-requires
-writes-requires c κs = search needs
-
-mark-after-words-requires-2 : tie.Need-mark-after-words-requires-2
-mark-after-words-requires-2 c κs = (c .before .before .before .before .before .before .before .before .before .before .before .before .pre .1 .1 .1 .outgoing, omega (arith, command-few (c .before .before .before .before .before .before .before .before .before .before .first-at .result) (secondAt (c .before .before .before .before .before .before .before .before .before .before .before .before .args .list .now) (c .before .before .before .before .before .before .before .before .before .before .before .before .args .at)), c .before .before .before .before .before .before .before .before .words-at .ensures))
-
-returns-2 : tie.Need-returns-2
-returns-2 c =
-    let at-start = c .before .before .before .before .before .before .before .before .before .before .before .before .before in
-    let second = secondAt (at-start .args .list .now) (at-start .args .at) in
-    rw (c .mark-after-words2 .ensures, ← c .before .before .before .before .before .before .before .before .before .before .before .first-at .ensures .0)
-    (field-sums (at-start .args .limit) (c .before .before .before .before .before .before .before .before .before .before .before .first-at .result) second (at-start .args .s) _ _ _ _ _ Outgoing (c .before .before .before .before .before .before .before .before .qmode-in .ensures) (c .before .before .before .before .before .before .before .start-in .ensures second)
-    (c .before .before .before .before .before .before .before .before .before .before .is-wide .ensures) (c .before .before .before .before .before .before .before .before .before .words-at .ensures) (c .before .before .before .before .before .before .worst-words .ensures .0)
-    (outgoing _ (sym (c .before .before .writes .ensures second) ∙ c .before .if2 .taken)))
-
-returns-3 : tie.Need-returns-3
-returns-3 c =
-    let at-start = c .before .before .before .before .before .before .before .before .before .before .before .before in
-    let second = secondAt (at-start .args .list .now) (at-start .args .at) in
-    rw (← c .before .before .before .before .before .before .before .before .before .before .first-at .ensures .0)
-    (field-sums (at-start .args .limit) (c .before .before .before .before .before .before .before .before .before .before .first-at .result) second (at-start .args .s) _ _ _ _ _ Neither (c .before .before .before .before .before .before .before .qmode-in .ensures) (c .before .before .before .before .before .before .start-in .ensures second)
-    (c .before .before .before .before .before .before .before .before .before .is-wide .ensures) (c .before .before .before .before .before .before .before .before .words-at .ensures) (c .before .before .before .before .before .worst-words .ensures .0)
-    (neither _ (sym (c .before .before .before .reads .ensures second) ∙ c .before .before .if1 .left) (sym (c .before .writes .ensures second) ∙ c .if2 .left)))
+    let start = c .before .before .before .before .before .before .before .before .before .before .args in
+    let second = secondAt (start .list .now) (start .at) in
+    rw (c .added-by .ensures, ← c .before .before .before .before .before .before .before .before .first-at .ensures .0)
+    (field-sums (start .limit) (c .before .before .before .before .before .before .before .before .first-at .result) second (start .s) _ _ _ _ _ _ (c .before .before .before .before .before .qmode-in .ensures)
+    (c .before .before .before .before .start-in .ensures second) (c .before .before .before .before .before .before .before .is-wide .ensures) (c .before .before .before .before .before .before .words-at .ensures) (c .before .before .before .worst-words .ensures .0)
+    (sym (c .before .direction-in .ensures second)))
 
 pub after-field-spec : {M : Type 1} → statement M
 after-field-spec =
@@ -80,10 +61,6 @@ after-field-spec =
     start-in-requires
     worst-words-requires
     add-worst
-    reads-requires
-    mark-after-words-requires
-    returns
-    writes-requires
-    mark-after-words-requires-2
-    returns-2
-    returns-3)
+    direction-in-requires
+    added-by-requires
+    returns)

@@ -1,11 +1,11 @@
--- `camlist_start_v1` meets its contract: its numbers are those of what start yields, and both buffers are its.
+-- `camlist_start_v2` meets its contract: its numbers are those of what start yields, and both buffers are its.
 use mathlib.Core.Path.{ap, _∙_}
 use Rattle.calls.specs.Calls.{recordNumbers}
 use Rattle.calls.specs.declared.Yield.{Yield}
 use Rattle.host.specs.Numbers.{callNumbers}
 use borrow.Author.Needs.{needs}
-use Rattle.host.proofs.entries.camlist_start_v1.Statement.{statement}
-use Rattle.host.proofs.entries.camlist_start_v1.Tie as tie
+use Rattle.host.proofs.entries.camlist_start_v2.Statement.{statement}
+use Rattle.host.proofs.entries.camlist_start_v2.Tie as tie
 
 start-requires : tie.Need-start-requires
 start-requires c κs = search needs
@@ -29,7 +29,7 @@ returns c =
       ),
     )
 
-pub camlist-start-v1-spec : {M : Type 1} → statement M
-camlist-start-v1-spec =
+pub camlist-start-v2-spec : {M : Type 1} → statement M
+camlist-start-v2-spec =
     tie.close
     (tie.spec start-requires record-numbers-requires call-numbers-requires same-length returns)

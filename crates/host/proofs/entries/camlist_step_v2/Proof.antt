@@ -1,10 +1,10 @@
--- `camlist_step_v1` meets its contract: the step of the record that its numbers give, or of one that fits no list.
+-- `camlist_step_v2` meets its contract: the step of the record that its numbers give, or of one that fits no list.
 use mathlib.Core.Path.{ap}
 use Rattle.host.specs.Numbers.{Leaving}
 use Rattle.host.proofs.TooWide.{step-leaves}
 use borrow.Author.Needs.{needs}
-use Rattle.host.proofs.entries.camlist_step_v1.Statement.{statement}
-use Rattle.host.proofs.entries.camlist_step_v1.Tie as tie
+use Rattle.host.proofs.entries.camlist_step_v2.Statement.{statement}
+use Rattle.host.proofs.entries.camlist_step_v2.Tie as tie
 
 record-of-requires : tie.Need-record-of-requires
 record-of-requires c κs = search needs
@@ -32,8 +32,8 @@ returns c =
       (ap (λ (l : Leaving). l .run) all, (ap (λ (l : Leaving). l .incoming) all, ap (λ (l : Leaving). l .outgoing) all)),
     )
 
-pub camlist-step-v1-spec : {M : Type 1} → statement M
-camlist-step-v1-spec =
+pub camlist-step-v2-spec : {M : Type 1} → statement M
+camlist-step-v2-spec =
     tie.close
     (tie.spec
     record-of-requires
