@@ -1,5 +1,5 @@
 -- The parts of an instruction decoded, by the bits of its longwords. The transfer mode decides which words and buffer it has; F's 8-bit and
--- 16-bit lie side by side in the first longword; refusal 8 leaves no inline instruction but a write.
+-- 16-bit lie side by side in the first longword; refusal 8 leaves no inline instruction but a write, and of sequencer mode F 12 alone.
 use Prim.Native.Nat.{ℕ, zero, suc, _+_, _*_, _/_, _%_, _^_, _≤_, _<_}
 use mathlib.Core.Path.{_≡_, refl, sym, ap, _∙_, subst}
 use mathlib.Core.Bool.{Bool, true, false, _&&_, _||_, not, and-false}
@@ -321,9 +321,9 @@ single-fault len first second z a m =
 
 -- The direction --------------------------------------------------------------------------------------------------------------
 
-module _ (first : ℕ) (p : Passes first) (second : ℕ) where
-  pub reads-in : first / 524288 % 4 ≡ 0 → directionOf (commandIn first second .transfer) ≡ Incoming
-  reads-in e = go (modeIn first) refl (omega arith)
+module _ (first second : ℕ) where
+  pub reads-in : Passes first → first / 524288 % 4 ≡ 0 → directionOf (commandIn first second .transfer) ≡ Incoming
+  reads-in p e = go (modeIn first) refl (omega arith)
     where
       go : (mode : ℕ) → modeIn first ≡ mode → mode < 4 → directionOf (commandIn first second .transfer) ≡ Incoming
       go zero m h = command-direction first second 0 m ∙ read-direction first e

@@ -1,5 +1,5 @@
 -- CAMAC words: what the two longwords of a CAMAC instruction say, and refusals 6 to 9 (document 01, "CAMAC words" and
--- "Who can cause which refusal"; the driver manual's "Command Memory Instruction Formats").
+-- "Who can cause which refusal", as amended by document 02's E1; the driver manual's "Command Memory Instruction Formats").
 use Prim.Native.Nat.{ℕ, zero, suc, _-_, _/_, _%_, _^_}
 use mathlib.Core.Bool.{Bool, true, false, _&&_, _||_, not}
 use mathlib.Core.List.{[], _∷_}

@@ -85,7 +85,7 @@ pub fn direction_in(first: u32) -> Direction
 
 // The same of modes 2 and 3 with no read function. Of an enhanced block a control function is the list sequencer's, whose A says it.
 fn late_direction(first: u32) -> Direction
-    requires { ⌜ Passes first × ((first / 64 % 2 ≡ 1) × ¬ (first / 524288 % 4 ≡ 0)) ⌝ }
+    requires { ⌜ (first / 64 % 2 ≡ 1) × ¬ (first / 524288 % 4 ≡ 0) ⌝ }
     ensures { λ r. ⌜ ((second : ℕ) → r ≡ directionOf (commandIn first second .transfer)) ⌝ }
 {
     if (first >> 5) % 2 == 1 {

@@ -59,6 +59,7 @@ pub record SameRun (c d : Command) : Type 0 where
 
 -- Two kinds ------------------------------------------------------------------------------------------------------------------
 
+-- an instruction by its transfer, word size and AD
 abbrev pub commandOf : Transfer → Bool → Bool → Command
 commandOf t wide ad = record { transfer = t; wide = wide; ad = ad }
 

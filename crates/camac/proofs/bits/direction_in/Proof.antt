@@ -7,7 +7,7 @@ use Rattle.camac.proofs.bits.direction_in.Statement.{statement}
 use Rattle.camac.proofs.bits.direction_in.Tie as tie
 
 returns : tie.Need-returns
-returns c = λ second. sym (reads-in _ (c .before .pre) second (c .if1 .taken))
+returns c = λ second. sym (reads-in _ second (c .before .pre) (c .if1 .taken))
 
 late-direction-requires : tie.Need-late-direction-requires
 late-direction-requires c κs = search needs
@@ -16,10 +16,10 @@ returns-2 : tie.Need-returns-2
 returns-2 c = search needs
 
 returns-3 : tie.Need-returns-3
-returns-3 c = λ second. sym (standard-none _ (c .before .before .before .pre) second (omega (arith, c .before .if2 .left)) (omega (arith, c .if3 .taken)))
+returns-3 c = λ second. sym (standard-none _ second (omega (arith, c .before .if2 .left)) (omega (arith, c .if3 .taken)))
 
 returns-4 : tie.Need-returns-4
-returns-4 c = λ second. sym (standard-out _ (c .before .before .before .pre) second (omega (arith, c .before .if2 .left)) (omega (arith, c .if3 .left, c .before .before .if1 .left)))
+returns-4 c = λ second. sym (standard-out _ second (omega (arith, c .before .if2 .left)) (omega (arith, c .if3 .left, c .before .before .if1 .left)))
 
 pub direction-in-spec : {M : Type 1} → statement M
 direction-in-spec =
