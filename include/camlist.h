@@ -1,6 +1,6 @@
 /*
  * The crate list engine for hosts in C and C++. Lists, replies, packing, status and refusals are those of document 01, "The crate list engine",
- * with enhanced blocks and the list sequencer (document 02, E1).
+ * with enhanced blocks and the list sequencer (document 02, E1), and with runs that a damaged command ends (E4).
  * Link libhost.a, which `rt staticlib host` makes for x86-64 Linux; every function that is declared and not defined here is proved.
  *
  * Which call. camlist_admit says whether a list is well formed and what it can need. A host that drives a crate calls camlist_start, makes the
@@ -115,7 +115,7 @@ extern "C" {
 /* Codes of the status: why a run ended. */
 #define CAMLIST_CODE_NO_ERROR 0x0        /* halt */
 #define CAMLIST_CODE_ILLEGAL_COMMAND 0x1 /* never: admission refuses such lists */
-#define CAMLIST_CODE_SERIAL_ERROR 0x4    /* never: ERR alone ends nothing */
+#define CAMLIST_CODE_SERIAL_ERROR 0x4    /* a command that reached its crate damaged: ERR with X = 1 and AD = 0 */
 #define CAMLIST_CODE_NO_Q 0x7            /* Q = 0 in stop */
 #define CAMLIST_CODE_NO_X 0x8            /* X = 0 with AD = 0, not in scan */
 #define CAMLIST_CODE_N_ABOVE_23 0x9      /* a scan left station 23 */

@@ -180,7 +180,7 @@ module _ {row : List ℕ} {answers : ℕ} (read : Read row answers) (limit : ℕ
   no-cause : {d : Bool} {next : ℕ} → Fine word (qmodeOf (c .transfer)) (c .ad) (flagsAt row (u .taken))
       → Onward limit (qmodeOf (c .transfer)) answer (u .tries) (u .position) (u .left) d next → NoCause limit c (at u) answer
   unfolding recordAt
-  no-cause f o = record { unspent = o .unspent; parity = f .parity; stays = o .stays; x = f .x; q = f .q-set }
+  no-cause f o = record { unspent = o .unspent; parity = f .parity; stays = o .stays; x = f .x; q = f .q-set; undamaged = f .undamaged }
 
   -- an operation more, and its flags gathered
   operations : at u .operations + 1 ≡ r .operations + (u .taken + 1 - from)

@@ -47,18 +47,18 @@ rules-in first second = rw (
   command-ad first 0,
 )
 
-stricter : (f : ℕ) → bitAnd f 0x33 ≡ 3 → bitAnd f 0x32 ≡ 2
+stricter : (f : ℕ) → bitAnd f 0x37 ≡ 3 → bitAnd f 0x36 ≡ 2
 stricter f e =
-    let scan : bitAnd f 0x33 / 2 ≡ bitAnd (f / 2) 0x19 = and-shr f 0x33 1 in
-    let ignored : bitAnd f 0x32 / 2 ≡ bitAnd (f / 2) 0x19 = and-shr f 0x32 1 in
-    let even : bitAnd f 0x32 % 2 ≡ 0 = and-mod f 0x32 1 ∙ and-zero-r (f % 2) in
+    let scan : bitAnd f 0x37 / 2 ≡ bitAnd (f / 2) 0x1B = and-shr f 0x37 1 in
+    let ignored : bitAnd f 0x36 / 2 ≡ bitAnd (f / 2) 0x1B = and-shr f 0x36 1 in
+    let even : bitAnd f 0x36 % 2 ≡ 0 = and-mod f 0x36 1 ∙ and-zero-r (f % 2) in
     omega arith
 
 -- a scan's word would be one in ignore
 word-ignored : (ad : Bool) (f : ℕ) → eqb (bitAnd f (wordFlags Scan ad)) (wordFlags Scan ad % 4) ≡ true
     → eqb (bitAnd f (wordFlags Ignore ad)) (wordFlags Ignore ad % 4) ≡ true
 word-ignored true f e = eq-eqb (bitAnd f 0) 0 (and-zero-r f)
-word-ignored false f e = eq-eqb (bitAnd f 0x32) 2 (stricter f (eqb-true (bitAnd f 0x33) 3 e))
+word-ignored false f e = eq-eqb (bitAnd f 0x36) 2 (stricter f (eqb-true (bitAnd f 0x37) 3 e))
 
 -- so that a word by the number of the Q-mode is one, in sequencer mode too
 pub word-numbered : (first f m : ℕ) → m ≡ wordFlags (qmodeNumbered (qmodeBits first)) (adIn first) → eqb (bitAnd f m) (m % 4) ≡ true

@@ -272,10 +272,10 @@ pub fn word_flags(q: QMode, ad: bool) -> u8
         }
     } else {
         match q {
-            QMode::Stop => 0x33,
-            QMode::Ignore => 0x32,
-            QMode::Repeat => 0x33,
-            QMode::Scan => 0x33,
+            QMode::Stop => 0x37,
+            QMode::Ignore => 0x36,
+            QMode::Repeat => 0x37,
+            QMode::Scan => 0x37,
         }
     }
 }
@@ -285,10 +285,10 @@ pub fn wait_flags(q: QMode, ad: bool) -> u8
     ensures { λ r. ⌜ r ≡ waitFlags q ad ⌝ }
 {
     match q {
-        QMode::Stop => if ad { 0x00 } else { 0x32 },
-        QMode::Ignore => if ad { 0x00 } else { 0x32 },
-        QMode::Repeat => if ad { 0x00 } else { 0x32 },
-        QMode::Scan => if ad { 0x00 } else { 0x30 },
+        QMode::Stop => if ad { 0x00 } else { 0x36 },
+        QMode::Ignore => if ad { 0x00 } else { 0x36 },
+        QMode::Repeat => if ad { 0x00 } else { 0x36 },
+        QMode::Scan => if ad { 0x00 } else { 0x34 },
     }
 }
 

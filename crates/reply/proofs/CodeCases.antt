@@ -1,22 +1,22 @@
--- The code of an answer is the greatest of its causes; every cause has a code from 1 to 13; a scan that leaves has no smaller cause
--- beside it, so that 9 as the greatest code is 9 as the only cause.
+-- The causes stand from the greatest code on, so that the first that holds is the code of an answer; every cause has a code from 1 to 13.
+-- A scan that leaves has no smaller cause beside it but a damaged command, so that without one 9 as the greatest code is the only cause.
 use Prim.Native.Nat.{ℕ, _≤_, _<_, max}
-use mathlib.Core.Path.{_≡_, refl, sym, _∙_}
-use mathlib.Core.Bool.{Bool, true, false}
+use mathlib.Core.Path.{_≡_, refl, sym, ap, _∙_}
+use mathlib.Core.Bool.{Bool, true, false, _&&_, not, and-false}
 use borrow.Author.Tests.{ne-eqb}
 use mathlib.Core.List.{List, [], _∷_}
 use native.Mathlib.Omega.{arith}
-use native.Mathlib.Nat.{zero-max, max-zero, max-le, le-max-left}
+use native.Mathlib.Nat.{max-le, le-max-left}
 use lib.Dec.{eqb}
-use Rattle.base.specs.Checks.{if_then_else_, Check, _gives_}
-use Rattle.base.proofs.Checks.{Numbered}
+use Rattle.base.specs.Checks.{if_then_else_, Check, _gives_, firstOf}
+use Rattle.base.proofs.Checks.{Numbered, FirstAt, numberAt, first-at}
 use Rattle.camac.specs.Words.{qmodeOf}
 use Rattle.qmodes.specs.declared.modes.QMode.{QMode}
 use Rattle.qmodes.specs.declared.modes.QMode.the-variants.{Stop, Ignore, Repeat, Scan}
 use Rattle.camac.specs.declared.words.Command.{Command}
 use Rattle.qmodes.specs.declared.scan.ScanPosition.{ScanPosition}
 use Rattle.qmodes.specs.Modes.{spent, scanLeaves, noX, noQInStop}
-use Rattle.reply.specs.Causes.{parityError, causeChecks, allThatHold, causesOf, greatest, codeOf, onlyNine}
+use Rattle.reply.specs.Causes.{parityError, damaged, causeChecks, allThatHold, causesOf, greatest, codeOf, onlyNine}
 use Rattle.qmodes.specs.declared.modes.Answer.{Answer}
 use Rattle.reply.specs.declared.replies.Reply.{Reply}
 use Rattle.reply.specs.declared.replies.Reply.the-variants.{Answered, Timeout, NotRecognised, NoSync}
@@ -24,21 +24,6 @@ use Rattle.reply.specs.declared.records.Record.{Record}
 use Rattle.base.proofs.Tests.{true-not-false}
 
 -- The greatest code ------------------------------------------------------------------------------------------------------
-
--- the greatest of the codes, with 0 for a check that does not hold
-abbrev maxOf : List Check → ℕ
-maxOf [] = 0
-maxOf (c ∷ cs) = max (if c .holds then c .number else 0) (maxOf cs)
-
-max-greatest : (cs : List Check) → maxOf cs ≡ greatest (allThatHold cs)
-max-greatest [] = refl
-max-greatest (c ∷ cs) = go (c .holds) (max-greatest cs)
-  where
-    go :
-        (t : Bool) → maxOf cs ≡ greatest (allThatHold cs)
-        → max (if t then c .number else 0) (maxOf cs) ≡ greatest (if t then c .number ∷ allThatHold cs else allThatHold cs)
-    go true e = rw e
-    go false e = zero-max (maxOf cs) ∙ e
 
 -- every code of the row is at most k
 abbrev Below : ℕ → List Check → Type 0
@@ -55,6 +40,24 @@ greatest-below k (c ∷ cs) h = go (c .holds) (greatest-below k cs (h .1))
     go true g = max-le (h .0) g
     go false g = g
 
+-- every code of the row is at most the one before it
+abbrev Falling : List Check → Type 0
+Falling [] = Unit {0}
+Falling (c ∷ cs) = Below (c .number) cs × Falling cs
+
+-- in a falling row the first check that holds has the greatest code
+greatest-first : (cs : List Check) → Falling cs → greatest (allThatHold cs) ≡ firstOf cs
+greatest-first [] h = refl
+greatest-first (c ∷ cs) h = go (c .holds) (greatest-first cs (h .1))
+  where
+    go :
+        (t : Bool) → greatest (allThatHold cs) ≡ firstOf cs
+        → greatest (if t then c .number ∷ allThatHold cs else allThatHold cs) ≡ (if t then c .number else firstOf cs)
+    go true e =
+        let small : max (c .number) (greatest (allThatHold cs)) ≤ c .number = max-le (omega arith) (greatest-below (c .number) cs (h .0)) in
+        omega (arith, le-max-left (c .number) (greatest (allThatHold cs)))
+    go false e = e
+
 code-small : (limit : ℕ) (c : Command) (r : Record) (reply : Reply) → codeOf limit c r reply ≤ 13
 unfolding codeOf causesOf causeChecks
 code-small limit c r NoSync = omega arith
@@ -67,8 +70,8 @@ code-below limit c r reply x e = omega (arith, code-small limit c r reply)
 
 -- The row of causes ------------------------------------------------------------------------------------------------------
 
-abbrev row : Bool → Bool → Bool → Bool → Bool → List ℕ
-row s p l x n = allThatHold (s gives 11 ∷ p gives 10 ∷ l gives 9 ∷ x gives 8 ∷ n gives 7 ∷ [])
+abbrev row : Bool → Bool → Bool → Bool → Bool → Bool → List ℕ
+row s p l x n d = allThatHold (s gives 11 ∷ p gives 10 ∷ l gives 9 ∷ x gives 8 ∷ n gives 7 ∷ d gives 4 ∷ [])
 
 first-numbered : (cs : List Check) → Numbered cs → {code : ℕ} {codes : List ℕ} → allThatHold cs ≡ code ∷ codes → 1 ≤ code
 first-numbered [] h e = let z : _≡_ {A = ℕ} 0 1 = cc in absurd (omega arith)
@@ -95,16 +98,25 @@ cause-numbered limit c r reply {code} {codes} e = omega (arith, first reply e, l
 
 -- The code of an answer --------------------------------------------------------------------------------------------------
 
-module _ (limit : ℕ) (c : Command) (r : Record) (a : Answer) (q : QMode) (eq : q ≡ qmodeOf (c .transfer)) where
-  pub code-greatest :
-      max (if spent limit q a (r .tries) then 11 else 0)
-      (max (if parityError (c .ad) a then 10 else 0)
-      (max (if scanLeaves q a (r .position) (r .left) then 9 else 0)
-      (max (if noX q (c .ad) a then 8 else 0) (if noQInStop q a then 7 else 0))))
-      ≡ codeOf limit c r (Answered a)
-  unfolding codeOf causesOf causeChecks
-  code-greatest =
-      rw (eq, ← max-zero (if noQInStop (qmodeOf (c .transfer)) a then 7 else 0)) (max-greatest (causeChecks limit c r a))
+-- the causes of an answer, the Q-mode by another name
+abbrev pub checksIn : ℕ → Command → Record → Answer → QMode → List Check
+checksIn limit c r a q =
+    spent limit q a (r .tries) gives 11
+    ∷ parityError (c .ad) a gives 10
+    ∷ scanLeaves q a (r .position) (r .left) gives 9
+    ∷ noX q (c .ad) a gives 8
+    ∷ noQInStop q a gives 7
+    ∷ damaged (c .ad) a gives 4
+    ∷ []
+
+-- where the causes before place k fail and the one there holds, its number is the code
+pub code-at :
+    (limit : ℕ) (c : Command) (r : Record) (a : Answer) (q : QMode) → q ≡ qmodeOf (c .transfer) → (k : ℕ)
+    → FirstAt k (checksIn limit c r a q) → numberAt k (checksIn limit c r a q) ≡ codeOf limit c r (Answered a)
+unfolding codeOf causesOf causeChecks
+code-at limit c r a q e k h =
+    sym (first-at k (checksIn limit c r a q) h)
+    ∙ (sym (greatest-first (checksIn limit c r a q) (omega arith)) ∙ ap (λ (x : QMode). greatest (allThatHold (checksIn limit c r a x))) e)
 
 -- an answer that is no cause
 pub record NoCause (limit : ℕ) (c : Command) (r : Record) (a : Answer) : Type 0 where
@@ -113,33 +125,40 @@ pub record NoCause (limit : ℕ) (c : Command) (r : Record) (a : Answer) : Type 
   pub stays : scanLeaves (qmodeOf (c .transfer)) a (r .position) (r .left) ≡ false
   pub x : noX (qmodeOf (c .transfer)) (c .ad) a ≡ false
   pub q : noQInStop (qmodeOf (c .transfer)) a ≡ false
+  pub undamaged : damaged (c .ad) a ≡ false
 
 pub no-causes : {limit : ℕ} {c : Command} {r : Record} {a : Answer} → NoCause limit c r a → causesOf limit c r (Answered a) ≡ []
 unfolding causesOf causeChecks
-no-causes n = rw (n .unspent, n .parity, n .stays, n .x, n .q)
+no-causes n = rw (n .unspent, n .parity, n .stays, n .x, n .q, n .undamaged)
 
 -- Nine as the only cause -------------------------------------------------------------------------------------------------
 
-above-nine : (code : ℕ) (codes : List ℕ) → 9 < code → onlyNine (code ∷ codes) ≡ eqb (greatest (code ∷ codes)) 9
-above-nine code codes h =
-    several codes ∙ sym (ne-eqb (max code (greatest codes)) 9 (λ e. omega (arith, le-max-left code (greatest codes))))
+above-nine : (code : ℕ) (codes : List ℕ) (d : Bool) → 9 < code → not d && eqb (greatest (code ∷ codes)) 9 ≡ onlyNine (code ∷ codes)
+above-nine code codes d h =
+    rw (ne-eqb (max code (greatest codes)) 9 (λ e. omega (arith, le-max-left code (greatest codes)))) (and-false (not d) ∙ sym (several codes))
   where
     several : (codes : List ℕ) → onlyNine (code ∷ codes) ≡ false
     several [] = ne-eqb code 9 (λ e. omega arith)
     several (d ∷ codes) = refl
 
 nine-alone :
-    (s p l x n : Bool) → (l ≡ true → x ≡ false) → (l ≡ true → n ≡ false)
-    → onlyNine (row s p l x n) ≡ eqb (greatest (row s p l x n)) 9
-nine-alone true p l x n hx hn = above-nine 11 (allThatHold (p gives 10 ∷ l gives 9 ∷ x gives 8 ∷ n gives 7 ∷ [])) (omega arith)
-nine-alone false true l x n hx hn = above-nine 10 (allThatHold (l gives 9 ∷ x gives 8 ∷ n gives 7 ∷ [])) (omega arith)
-nine-alone false false true true n hx hn = absurd (true-not-false (hx refl))
-nine-alone false false true false true hx hn = absurd (true-not-false (hn refl))
-nine-alone false false true false false hx hn = refl
-nine-alone false false false true true hx hn = refl
-nine-alone false false false true false hx hn = refl
-nine-alone false false false false true hx hn = refl
-nine-alone false false false false false hx hn = refl
+    (s p l x n d : Bool) → (l ≡ true → x ≡ false) → (l ≡ true → n ≡ false)
+    → not d && eqb (greatest (row s p l x n d)) 9 ≡ onlyNine (row s p l x n d)
+nine-alone true p l x n d hx hn =
+    above-nine 11 (allThatHold (p gives 10 ∷ l gives 9 ∷ x gives 8 ∷ n gives 7 ∷ d gives 4 ∷ [])) d (omega arith)
+nine-alone false true l x n d hx hn = above-nine 10 (allThatHold (l gives 9 ∷ x gives 8 ∷ n gives 7 ∷ d gives 4 ∷ [])) d (omega arith)
+nine-alone false false true true n d hx hn = absurd (true-not-false (hx refl))
+nine-alone false false true false true d hx hn = absurd (true-not-false (hn refl))
+nine-alone false false true false false true hx hn = refl
+nine-alone false false true false false false hx hn = refl
+nine-alone false false false true true true hx hn = refl
+nine-alone false false false true true false hx hn = refl
+nine-alone false false false true false true hx hn = refl
+nine-alone false false false true false false hx hn = refl
+nine-alone false false false false true true hx hn = refl
+nine-alone false false false false true false hx hn = refl
+nine-alone false false false false false true hx hn = refl
+nine-alone false false false false false false hx hn = refl
 
 leaving-no-x : (q : QMode) (ad : Bool) (a : Answer) (p : ScanPosition) (left : ℕ) → scanLeaves q a p left ≡ true → noX q ad a ≡ false
 leaving-no-x Stop ad a p left h = absurd (true-not-false (sym h))
@@ -153,20 +172,18 @@ leaving-no-q Ignore a p left h = refl
 leaving-no-q Repeat a p left h = refl
 leaving-no-q Scan a p left h = refl
 
--- "with 9 as the only cause" is 9 as the greatest code
+-- "with 9 as the only cause" is 9 as the greatest code of a command that is not damaged
 pub only-nine :
-    (limit : ℕ) (c : Command) (r : Record) (reply : Reply)
-    → onlyNine (causesOf limit c r reply) ≡ eqb (codeOf limit c r reply) 9
+    (limit : ℕ) (c : Command) (r : Record) (a : Answer)
+    → not (damaged (c .ad) a) && eqb (codeOf limit c r (Answered a)) 9 ≡ onlyNine (causesOf limit c r (Answered a))
 unfolding codeOf causesOf causeChecks
-only-nine limit c r NoSync = refl
-only-nine limit c r NotRecognised = refl
-only-nine limit c r Timeout = refl
-only-nine limit c r (Answered a) =
+only-nine limit c r a =
     nine-alone
     (spent limit (qmodeOf (c .transfer)) a (r .tries))
     (parityError (c .ad) a)
     (scanLeaves (qmodeOf (c .transfer)) a (r .position) (r .left))
     (noX (qmodeOf (c .transfer)) (c .ad) a)
     (noQInStop (qmodeOf (c .transfer)) a)
+    (damaged (c .ad) a)
     (leaving-no-x (qmodeOf (c .transfer)) (c .ad) a (r .position) (r .left))
     (leaving-no-q (qmodeOf (c .transfer)) a (r .position) (r .left))

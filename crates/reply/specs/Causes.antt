@@ -24,6 +24,10 @@ doneBy q NoSync = false
 abbrev pub parityError : Bool → Answer → Bool
 parityError ad a = (a .tpe || a .lpe) && not ad
 
+-- E4: "ERR with X = 1 and AD = 0 ends the run with code 4, in scan as well"
+abbrev pub damaged : Bool → Answer → Bool
+damaged ad a = (a .err && a .x) && not ad
+
 -- the causes of an answer with their codes
 unfoldable pub causeChecks : ℕ → Command → Record → Answer → List Check
 causeChecks limit c r a =
@@ -32,6 +36,7 @@ causeChecks limit c r a =
     ∷ scanLeaves (qmodeOf (c .transfer)) a (r .position) (r .left) gives 9
     ∷ noX (qmodeOf (c .transfer)) (c .ad) a gives 8
     ∷ noQInStop (qmodeOf (c .transfer)) a gives 7
+    ∷ damaged (c .ad) a gives 4
     ∷ []
 
 -- the numbers of all checks of a row that hold

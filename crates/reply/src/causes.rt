@@ -1,13 +1,11 @@
 // When a word is done, and what ends a run.
 use crate::records::Record;
 use crate::replies::Reply;
-use crate::status::value_if;
 use camac::Command;
 use qmodes::Answer;
 use qmodes::QMode;
 ghost use mathlib.Core.Path.{_≡_};
-ghost use Prim.Native.Nat.{max};
-ghost use Rattle.reply.specs.Causes.{doneBy, parityError, codeOf};
+ghost use Rattle.reply.specs.Causes.{doneBy, parityError, damaged, causesOf, codeOf, onlyNine};
 
 pub fn done_by(q: QMode, reply: Reply) -> bool
     ensures { λ r. ⌜ r ≡ doneBy q reply ⌝ }
@@ -20,16 +18,16 @@ pub fn done_by(q: QMode, reply: Reply) -> bool
     }
 }
 
-pub fn has_parity_error(ad: bool, a: Answer) -> bool
+fn has_parity_error(ad: bool, a: Answer) -> bool
     ensures { λ r. ⌜ r ≡ parityError ad a ⌝ }
 {
     (a.tpe | a.lpe) & !ad
 }
 
-fn greater(a: u32, b: u32) -> u32
-    ensures { λ r. ⌜ r ≡ max a b ⌝ }
+fn is_damaged(ad: bool, a: Answer) -> bool
+    ensures { λ r. ⌜ r ≡ damaged ad a ⌝ }
 {
-    if a < b { b } else { a }
+    (a.err & a.x) & !ad
 }
 
 // The code of an answer: its greatest cause, 0 where there is none.
@@ -39,13 +37,25 @@ fn answer_code(limit: usize, c: Command, r: Record, a: Answer) -> u32
     let t = c.transfer;
     let q = camac::qmode_of(t);
     let ad = c.ad;
-    let p = r.position;
-    let no_q = value_if(qmodes::has_no_q(q, a), 7);
-    let no_x = value_if(qmodes::has_no_x(q, ad, a), 8);
-    let leaves = value_if(qmodes::scan_leaves(q, a, p, r.left), 9);
-    let parity = value_if(has_parity_error(ad, a), 10);
-    let spent = value_if(qmodes::is_spent(limit, q, a, r.tries), 11);
-    greater(spent, greater(parity, greater(leaves, greater(no_x, no_q))))
+    if qmodes::is_spent(limit, q, a, r.tries) {
+        return 11;
+    }
+    if has_parity_error(ad, a) {
+        return 10;
+    }
+    if qmodes::scan_leaves(q, a, r.position, r.left) {
+        return 9;
+    }
+    if qmodes::has_no_x(q, ad, a) {
+        return 8;
+    }
+    if qmodes::has_no_q(q, a) {
+        return 7;
+    }
+    if is_damaged(ad, a) {
+        return 4;
+    }
+    0
 }
 
 pub fn code_of(limit: usize, c: Command, r: Record, reply: Reply) -> u32
@@ -56,5 +66,18 @@ pub fn code_of(limit: usize, c: Command, r: Record, reply: Reply) -> u32
         Reply::Timeout => 11,
         Reply::NotRecognised => 12,
         Reply::NoSync => 13,
+    }
+}
+
+// Whether 9 is the only cause: a damaged command may stand beside it.
+pub fn is_only_nine(limit: usize, c: Command, r: Record, reply: Reply, code: u32) -> bool
+    requires { ⌜ code ≡ codeOf limit c r reply ⌝ }
+    ensures { λ b. ⌜ b ≡ onlyNine (causesOf limit c r reply) ⌝ }
+{
+    match reply {
+        Reply::Answered(a) => !is_damaged(c.ad, a) & (code == 9),
+        Reply::Timeout => false,
+        Reply::NotRecognised => false,
+        Reply::NoSync => false,
     }
 }

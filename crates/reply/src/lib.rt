@@ -6,7 +6,7 @@ pub mod status;
 
 pub use causes::code_of;
 pub use causes::done_by;
-pub use causes::has_parity_error;
+pub use causes::is_only_nine;
 pub use records::Note;
 pub use records::Record;
 pub use records::counted_record;

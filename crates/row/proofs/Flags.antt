@@ -12,7 +12,7 @@ use Rattle.qmodes.specs.Modes.{done, noX, noQInStop}
 use Rattle.qmodes.specs.model.Answers.{wordFlags, waitFlags, canWait}
 use Rattle.qmodes.specs.declared.modes.QMode.{QMode}
 use Rattle.qmodes.specs.declared.modes.QMode.the-variants.{Stop, Ignore, Repeat, Scan}
-use Rattle.reply.specs.Causes.{parityError}
+use Rattle.reply.specs.Causes.{parityError, damaged}
 use Rattle.row.specs.model.Words.{answerBy}
 use Rattle.row.proofs.Tried.{allBelow, tried}
 
@@ -27,17 +27,22 @@ module _ (word : ℕ) where
     pub parity : parityError ad (answerBy f word) ≡ false
     pub x : noX q ad (answerBy f word) ≡ false
     pub q-set : noQInStop q (answerBy f word) ≡ false
+    pub undamaged : damaged ad (answerBy f word) ≡ false
 
   abbrev fine : QMode → Bool → ℕ → Bool
-  fine q ad f = not (parityError ad (answerBy f word)) && (not (noX q ad (answerBy f word)) && not (noQInStop q (answerBy f word)))
+  fine q ad f =
+      not (parityError ad (answerBy f word))
+      && (not (noX q ad (answerBy f word)) && (not (noQInStop q (answerBy f word)) && not (damaged ad (answerBy f word))))
 
   fine-all : (q : QMode) (ad : Bool) (f : ℕ) → fine q ad f ≡ true → Fine q ad f
   fine-all q ad f all =
       let rest = and-right (not (parityError ad (answerBy f word))) _ all in
+      let last = and-right (not (noX q ad (answerBy f word))) _ rest in
       record {
         parity = not-true _ (and-left _ _ all);
         x = not-true _ (and-left _ _ rest);
-        q-set = not-true _ (and-right (not (noX q ad (answerBy f word))) _ rest);
+        q-set = not-true _ (and-left _ _ last);
+        undamaged = not-true _ (and-right (not (noQInStop q (answerBy f word))) _ last);
       }
 
   -- Words ----------------------------------------------------------------------------------------------------------------

@@ -1,11 +1,10 @@
--- The room for a word and its bytes, by the direction of its instruction; a counted reply leaves the marks; a word moves at the end by the code.
+-- The room for a word and its bytes, by the direction of its instruction; a counted reply leaves the marks.
 use Prim.Native.Nat.{ℕ, _^_, _≤_, _<_}
 use mathlib.Core.Path.{_≡_, refl, sym, ap, _∙_, subst}
-use mathlib.Core.Bool.{Bool, false, and-true, and-false}
-use borrow.Author.Tests.{ne-eqb}
+use mathlib.Core.Bool.{Bool}
 use mathlib.Core.List.{List}
 use native.Mathlib.Omega.{arith}
-use Rattle.camac.specs.Words.{directionOf, qmodeOf}
+use Rattle.camac.specs.Words.{directionOf}
 use Rattle.camac.specs.declared.words.Command.{Command}
 use Rattle.camac.specs.declared.words.Direction.{Direction}
 use Rattle.camac.specs.declared.words.Direction.the-variants.{Incoming, Outgoing, Neither}
@@ -13,12 +12,10 @@ use Rattle.packing.specs.Packing.{markAfter, stored}
 use Rattle.packing.specs.declared.Marks.{Marks}
 use Rattle.packing.proofs.MarkFacts.{mark-grows}
 use Rattle.walk.specs.Walk.{movedBy, moved}
-use Rattle.reply.specs.Causes.{doneBy, codeOf}
 use Rattle.reply.specs.Effect.{movedBytes, counted}
-use Rattle.take.specs.model.Here.{incomingAfter, movesAtEnd}
+use Rattle.take.specs.model.Here.{incomingAfter}
 use Rattle.reply.specs.declared.replies.Reply.{Reply}
 use Rattle.reply.specs.declared.records.Record.{Record}
-use Rattle.reply.proofs.CodeCases.{only-nine}
 
 -- Marks and room ---------------------------------------------------------------------------------------------------------
 
@@ -71,14 +68,3 @@ pub marks-small : (c : Command) (m a : Marks) (n : ℕ) → a ≡ m → moved c 
     → (a .incoming < 2 ^ 63) × (a .outgoing < 2 ^ 63)
 marks-small c m a n e h k o =
     (omega (arith, ap (λ (x : Marks). x .incoming) e, mark-within c m n h), omega (arith, ap (λ (x : Marks). x .outgoing) e))
-
--- The word of a reply that ends the run ----------------------------------------------------------------------------------
-
-module _ (limit : ℕ) (c : Command) (reply : Reply) (r : Record) (code : ℕ) (e : code ≡ codeOf limit c r reply) where
-  pub moves-nine : code ≡ 9 → doneBy (qmodeOf (c .transfer)) reply ≡ movesAtEnd limit c reply r
-  unfolding movesAtEnd
-  moves-nine h = rw (only-nine limit c r reply, ← e, h) (sym (and-true (doneBy (qmodeOf (c .transfer)) reply)))
-
-  pub moves-none : ¬ (code ≡ 9) → false ≡ movesAtEnd limit c reply r
-  unfolding movesAtEnd
-  moves-none h = rw (only-nine limit c r reply, ← e, ne-eqb code 9 h) (sym (and-false (doneBy (qmodeOf (c .transfer)) reply)))

@@ -9,6 +9,7 @@ use reply::code_of;
 use reply::counted_record;
 use reply::done_by;
 use reply::ended_at;
+use reply::is_only_nine;
 use reply::moved_record;
 use reply::wait_on;
 use reply::waits_for;
@@ -101,7 +102,7 @@ fn moves_at_end(limit: usize, c: Command, reply: Reply, run: Record, code: u32) 
     ensures { λ b. ⌜ b ≡ movesAtEnd limit c reply run ⌝ }
 {
     let t = c.transfer;
-    if code == 9 {
+    if is_only_nine(limit, c, run, reply, code) {
         return done_by(camac::qmode_of(t), reply);
     }
     false

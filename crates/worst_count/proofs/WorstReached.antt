@@ -21,13 +21,14 @@ use Rattle.walk.specs.declared.worst.Counts.{Counts}
 use Rattle.walk.specs.declared.Admission.the-variants.{Admitted}
 use Rattle.reply.specs.Replies.{answerIn, hasForm, replyOf}
 use Rattle.qmodes.specs.Modes.{done, scanLeaves, spent, noX, noQInStop}
-use Rattle.reply.specs.Causes.{causeChecks, causesOf}
+use Rattle.reply.specs.Causes.{causesOf}
 use Rattle.reply.specs.Effect.{State, byCauses, takeReply}
 use Rattle.calls.specs.Calls.{stepOf}
 use Rattle.qmodes.specs.declared.modes.Answer.{Answer}
 use Rattle.qmodes.proofs.SlowestFalls.{slowestAnswer, Slowest, slowest-at}
 use Rattle.reply.specs.declared.records.Record.{Record}
 use Rattle.reply.specs.declared.replies.Reply.the-variants.{Answered}
+use Rattle.reply.proofs.CodeCases.{no-causes}
 use Rattle.worst_count.specs.Slowest.{slowestAt, slowestReply}
 use Rattle.worst_count.specs.WorstCount.{afterReplies, startState, NoneRefused, Attained}
 use Rattle.worst_count.proofs.StatusBits.{flags-only}
@@ -39,13 +40,13 @@ use Rattle.worst_count.proofs.Sequences.{start-reached, step-live, take
 
 -- The slowest reply at a record ---------------------------------------------------------------------------------------
 
--- no cause
+-- no cause: X is set, and neither a parity bit nor ERR
 slowest-clear : (limit : ℕ) (c : Command) (r : Record) (b : Bool) → spent limit (qmodeOf (c .transfer)) (slowestAnswer b) (r .tries) ≡ false
     → scanLeaves (qmodeOf (c .transfer)) (slowestAnswer b) (r .position) (r .left) ≡ false
     → noQInStop (qmodeOf (c .transfer)) (slowestAnswer b) ≡ false
     → causesOf limit c r (Answered (slowestAnswer b)) ≡ []
-unfolding causesOf causeChecks
-slowest-clear limit c r b hs hv hq = rw (hs, hv, hq, answers-x (qmodeOf (c .transfer)))
+slowest-clear limit c r b hs hv hq =
+    no-causes (record { unspent = hs; parity = refl; stays = hv; x = answers-x (qmodeOf (c .transfer)); q = hq; undamaged = refl })
   where
     answers-x : (q : QMode) → noX q (c .ad) (slowestAnswer b) ≡ false
     answers-x Stop = refl

@@ -84,7 +84,7 @@ impl Camac {
         self.with(Q_MODE, 3 << 3)
     }
 
-    /// AD = 1: parity errors and X = 0 end nothing.
+    /// AD = 1: parity errors, damaged commands and X = 0 end nothing.
     pub fn abort_disable(self) -> Camac {
         self.with(ABORT_DISABLE, ABORT_DISABLE)
     }

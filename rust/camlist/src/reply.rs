@@ -42,6 +42,8 @@ impl Reply {
         self.flags(!2, 0)
     }
 
+    /// ERR. With X = 1 and AD = 0 the run ends and no word is moved: the command reached its
+    /// crate damaged.
     pub fn err(self) -> Reply {
         self.flags(!0, 4)
     }

@@ -68,7 +68,7 @@ impl Code {
     pub const NO_ERROR: Code = Code(0);
     /// Never: admission refuses such lists.
     pub const ILLEGAL_COMMAND: Code = Code(1);
-    /// Never: ERR alone ends nothing.
+    /// A command that reached its crate damaged: ERR with X = 1 and AD = 0.
     pub const SERIAL_ERROR: Code = Code(4);
     /// Q = 0 in stop.
     pub const NO_Q: Code = Code(7);

@@ -72,10 +72,10 @@ fn compare_family(letters: &[[u8; 8]], depth: usize) -> u64 {
     compared
 }
 
-/// Rows of a few telling replies.
+/// Rows of a few telling replies: ERR where it ends a run with AD = 0, and beside X = 0.
 #[test]
 fn long_rows_of_few_replies() {
-    let answers = [Q | X, X, Q, 0, Q | X | TPE, X | LPE, Q | ERR | DERR];
+    let answers = [Q | X, X, Q, ERR, Q | X | TPE, X | LPE, Q | X | ERR | DERR];
     let mut letters: Vec<_> = answers.map(|flags| answer(flags, 0)).to_vec();
     letters.extend([1, 2, 3].map(kind));
     let compared = compare_family(&letters, DEPTH);

@@ -70,6 +70,7 @@ impl Around {
 fn replies() -> Vec<[u8; 8]> {
     let flags = [Q | X, X, Q, 0, Q | X | TPE, X | LPE, Q | ERR | DERR];
     let mut replies = flags.map(|flags| answer(flags, 0x12_3456)).to_vec();
+    replies.push(answer(Q | X | ERR, 0x65_4321));
     replies.extend([1, 2, 3].map(kind));
     replies
 }
@@ -109,7 +110,7 @@ fn compare_list(list: &[u8], compared: &mut Compared) {
         for reply in &replies {
             compared.step(&given(record), reply);
         }
-        let row = replies[..7].concat();
+        let row = replies[..8].concat();
         compare_steps(&given(record), &row, format_args!("{list:02X?} {record:?}"));
         let around = Around {
             admitted: admitted.clone(),

@@ -373,6 +373,7 @@ struct Causes {
     scan_left: bool,
     no_x: bool,
     no_q: bool,
+    damaged: bool,
 }
 
 fn causes(list: &List, camac: &Camac, record: &Record, response: &Response, next: Next) -> Causes {
@@ -389,6 +390,8 @@ fn causes(list: &List, camac: &Camac, record: &Record, response: &Response, next
         no_x: !response.x && abort && camac.q_mode != QMode::Scan,
         // "Q = 0 in stop, 7".
         no_q: !response.q && camac.q_mode == QMode::Stop,
+        // "ERR with X = 1 and AD = 0 ends the run with code 4, in scan as well" (E4).
+        damaged: response.err && response.x && abort,
     }
 }
 
@@ -401,12 +404,13 @@ impl Causes {
             (self.scan_left, 9),
             (self.no_x, 8),
             (self.no_q, 7),
+            (self.damaged, 4),
         ];
         codes.into_iter().find(|code| code.0).map(|code| code.1)
     }
 
     fn only_scan_left(&self) -> bool {
-        let others = self.tries_spent || self.parity || self.no_x || self.no_q;
+        let others = self.tries_spent || self.parity || self.no_x || self.no_q || self.damaged;
         self.scan_left && !others
     }
 

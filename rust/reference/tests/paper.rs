@@ -29,6 +29,13 @@ fn document_02() {
 }
 
 #[test]
+fn steps_of_document_02() {
+    for known in paper::steps() {
+        known.check(&ENGINE);
+    }
+}
+
+#[test]
 fn the_manual() {
     for known in paper::manual() {
         known.check(&ENGINE);

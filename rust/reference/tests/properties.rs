@@ -2,11 +2,13 @@
 
 use std::collections::HashMap;
 
+use reference::cases::by_hand::{ERR, X};
 use reference::cases::lists::{self, Draft, DraftField, BLOCK, ENHANCED, Q_MODE};
-use reference::cases::records::{fitting, step_case};
+use reference::cases::records::{fitting, step_case, StepCase};
 use reference::cases::rng::Rng;
 use reference::cases::rows::{row, slowest, Manner, MANNERS};
 use reference::fit::{fits, most_still_possible};
+use reference::list::Instruction;
 use reference::scan::Position;
 use reference::walk::{admission, Admitted};
 use reference::words::{decode, Camac};
@@ -236,12 +238,73 @@ fn fit_is_closed_under_taken_steps() {
     }
 }
 
+/// E4: where AD = 0, ERR with X = 1 ends the run, with 4 or a greater code, and moves no word.
+#[test]
+fn a_damaged_command_ends_the_run_and_moves_no_word() {
+    let mut ended = 0;
+    for number in 0..CASES {
+        let case = step_case(9, number);
+        let (answer, incoming) = case.stepped();
+        if answer.refusal.is_some() || !is_damaged(&case) {
+            continue;
+        }
+        let (before, after) = (case.record, answer.record);
+        assert!(after.ended, "case {number}");
+        assert!([4, 7, 9, 0xA, 0xB].contains(&(after.status >> 28)));
+        assert_eq!(after.status & ERR_BITS, ERR_BITS);
+        assert_eq!(after.note, before.note);
+        assert_eq!(after.incoming_mark, before.incoming_mark);
+        assert_eq!(after.outgoing_mark, before.outgoing_mark);
+        assert_eq!(incoming, case.incoming);
+        ended += u64::from(after.status >> 28 == 4);
+    }
+    assert!(ended > CASES / 100);
+}
+
+/// "ERR alone ends nothing" stays for X = 0 and for AD = 1: there ERR sets its two bits of the
+/// status and does nothing else.
+#[test]
+fn err_without_x_or_with_ad_is_only_gathered() {
+    let mut gathered = 0;
+    for number in 0..CASES {
+        let case = step_case(10, number);
+        let (answer, incoming) = case.stepped();
+        let has_err = case.reply.get(1).is_some_and(|flags| flags & ERR != 0);
+        if answer.refusal.is_some() || !has_err || is_damaged(&case) {
+            continue;
+        }
+        let mut without = case.clone();
+        without.reply[1] &= !ERR;
+        let (mut plain, plain_incoming) = without.stepped();
+        assert_eq!(answer.record.status & ERR_BITS, ERR_BITS);
+        plain.record.status |= ERR_BITS;
+        assert_eq!((answer, incoming), (plain, plain_incoming), "case {number}");
+        gathered += 1;
+    }
+    assert!(gathered > CASES / 100);
+}
+
+/// What ERR sets in the status.
+const ERR_BITS: u32 = 1 << 23 | 1 << 18;
+
+/// Whether the reply to a record that fits is an answer with ERR and X = 1 where AD = 0.
+fn is_damaged(case: &StepCase) -> bool {
+    let instruction = case.record.instruction as usize;
+    let admitted = admission(&case.list, u64::MAX, u64::MAX).expect("admitted");
+    let field = admitted.list.instructions.get(instruction);
+    let Some(Instruction::Camac(camac)) = field else {
+        return false;
+    };
+    case.reply[1] & (X | ERR) == X | ERR && !camac.abort_disable
+}
+
 /// All the bytes 1 that can change the course of a run, and a timeout.
-const REPLIES: [[u8; 8]; 6] = [
+const REPLIES: [[u8; 8]; 7] = [
     [0, 0, 0, 0, 0, 0, 0, 0],
     [0, 1, 0, 0, 0, 0, 0, 0],
     [0, 2, 0, 0, 0, 0, 0, 0],
     [0, 3, 0, 0, 0, 0, 0, 0],
+    [0, 7, 0, 0, 0, 0, 0, 0],
     [0, 0x13, 0, 0, 0, 0, 0, 0],
     [1, 0, 0, 0, 0, 0, 0, 0],
 ];
@@ -268,7 +331,7 @@ fn longest(list: &[u8], admitted: &Admitted, record: Record, known: &mut Known) 
         assert_eq!(answer.refusal, None);
         longest(list, admitted, answer.record, known)
     });
-    let most = 1 + after.into_iter().max().expect("six replies");
+    let most = 1 + after.into_iter().max().expect("seven replies");
     known.insert(key, most);
     most
 }

@@ -7,19 +7,20 @@ use Rattle.base.specs.Checks.{if_then_else_}
 use Rattle.qmodes.specs.declared.modes.QMode.{QMode}
 use Rattle.qmodes.specs.declared.modes.QMode.the-variants.{Stop, Ignore, Repeat, Scan}
 
--- the flags that make an answer a word: of these just Q (01h) and X (02h) are set; TPE (10h), LPE (20h) and X count where AD = 0
+-- the flags that make an answer a word: of these just Q (01h) and X (02h) are set; ERR (04h), TPE (10h), LPE (20h) and X count where AD = 0
 abbrev pub wordFlags : QMode → Bool → ℕ
-wordFlags Stop ad = if ad then 0x01 else 0x33
-wordFlags Ignore ad = if ad then 0x00 else 0x32
-wordFlags Repeat ad = if ad then 0x01 else 0x33
-wordFlags Scan ad = if ad then 0x03 else 0x33
+wordFlags Stop ad = if ad then 0x01 else 0x37
+wordFlags Ignore ad = if ad then 0x00 else 0x36
+wordFlags Repeat ad = if ad then 0x01 else 0x37
+wordFlags Scan ad = if ad then 0x03 else 0x37
 
--- the flags by which an answer that is no word is no cause: of these just X is set. In stop and ignore each such answer is a cause.
+-- the flags by which an answer that is no word is no cause: of these just X is set. In stop and ignore each such answer is a cause. In a scan
+-- ERR without X is none, and is left to the causes.
 abbrev pub waitFlags : QMode → Bool → ℕ
-waitFlags Stop ad = if ad then 0x00 else 0x32
-waitFlags Ignore ad = if ad then 0x00 else 0x32
-waitFlags Repeat ad = if ad then 0x00 else 0x32
-waitFlags Scan ad = if ad then 0x00 else 0x30
+waitFlags Stop ad = if ad then 0x00 else 0x36
+waitFlags Ignore ad = if ad then 0x00 else 0x36
+waitFlags Repeat ad = if ad then 0x00 else 0x36
+waitFlags Scan ad = if ad then 0x00 else 0x34
 
 -- whether there is a next try for it: in repeat before try R, in a scan before station 23, whose positions begin at 170h
 abbrev pub canWait : QMode → ℕ → ℕ → ℕ → Bool

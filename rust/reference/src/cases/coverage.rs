@@ -102,6 +102,19 @@ pub enum Event {
     TriesSpent,
     /// X = 0 or a parity error that AD = 1 saved.
     AbortDisabled,
+    /// ERR with X = 1 and AD = 0 that ended the run with code 4, in this transfer mode and
+    /// Q-mode; the same of a control.
+    Damaged(Mode, u8),
+    DamagedControl,
+    /// ERR with X = 1 and AD = 0 under this greater code.
+    DamagedUnder(u8),
+    /// Word n of a scan at 23/15, or its leaving from there with words left, with ERR.
+    ScanFinishesDamaged,
+    ScanLeavesDamaged,
+    /// A word moved with ERR and X = 1, which AD = 1 saved.
+    ErrSaved,
+    /// A scan's answer with ERR and X = 0 that ended nothing, AD = 0.
+    ScanSkipsErr,
     /// A start that runs to its first operation, or to its end, or is refused.
     StartWaits,
     StartEnds,
@@ -159,6 +172,11 @@ impl Coverage {
     pub fn of_steps() -> Coverage {
         let refusals = [20, 22, 23, 24].map(Event::Refusal);
         Coverage::expecting(refusals.into_iter().chain(of_operations()))
+    }
+
+    /// Counters for single replies to records that fit.
+    pub fn of_replies() -> Coverage {
+        Coverage::expecting(of_operations())
     }
 
     /// Counters for cases of start, step and steps.
@@ -404,7 +422,7 @@ impl Coverage {
     }
 
     /// Counts what one reply meets, with the records before and after it.
-    fn observe_operation(
+    pub fn observe_operation(
         &mut self,
         admitted: &Admitted,
         before: &Record,
@@ -435,6 +453,9 @@ impl Coverage {
         );
         let no_x = mode == Mode::Sequencer && code == 8;
         self.met_if(no_x, Event::SequencerNoX);
+        if response.err {
+            self.observe_err(&camac, before, response, after);
+        }
         if camac.q_mode == QMode::Scan {
             self.observe_scan(before, response, after);
         }
@@ -456,6 +477,31 @@ impl Coverage {
         }
     }
 
+    /// Counts what an answer with ERR meets.
+    fn observe_err(&mut self, camac: &Camac, before: &Record, response: &Response, after: &Record) {
+        let code = status::code(after.status);
+        let saved = response.x && camac.abort_disable && moved(before, after);
+        self.met_if(saved, Event::ErrSaved);
+        let scans = camac.q_mode == QMode::Scan;
+        let skips = scans && !response.x && !camac.abort_disable && !after.ended;
+        self.met_if(skips, Event::ScanSkipsErr);
+        if !response.x || camac.abort_disable {
+            return;
+        }
+        let control = camac.direction() == Direction::Control;
+        self.met_if(code == 4 && control, Event::DamagedControl);
+        self.met(match code {
+            4 => Event::Damaged(mode(camac), q_number(camac)),
+            _ => Event::DamagedUnder(code),
+        });
+        let last_place = scans && response.q && (before.n, before.a) == (23, 15);
+        let last_word = before.words_left == 1;
+        let finishes = last_place && last_word && code == 4;
+        self.met_if(finishes, Event::ScanFinishesDamaged);
+        let leaves = last_place && !last_word && code == 9;
+        self.met_if(leaves, Event::ScanLeavesDamaged);
+    }
+
     fn observe_scan(&mut self, before: &Record, response: &Response, after: &Record) {
         let code = status::code(after.status);
         let on = !after.ended || code == 0;
@@ -468,7 +514,7 @@ impl Coverage {
         let finishes = done && last_word && last_place;
         self.met_if(on && finishes, Event::ScanFinishesLast);
         self.met_if(code == 0xA && finishes, Event::ScanFinishesWithParity);
-        self.met_if(left && done && code == 9, Event::ScanLeavesMoved);
+        self.met_if(left && moved(before, after), Event::ScanLeavesMoved);
         self.met_if(left && !done && code == 9, Event::ScanLeavesSkipping);
         self.met_if(left && code > 9, Event::ScanLeavesUnderGreater);
     }
@@ -484,7 +530,7 @@ impl Coverage {
 
 /// The events of single operations.
 fn of_operations() -> impl Iterator<Item = Event> {
-    let ends = [0, 7, 8, 9, 0xA, 0xB, 0xC, 0xD].map(Event::End);
+    let ends = [0, 4, 7, 8, 9, 0xA, 0xB, 0xC, 0xD].map(Event::End);
     let modes = [Mode::Single, Mode::Block, Mode::Inline];
     let done = modes.map(|mode| (0..4).map(move |q_mode| Event::Done(mode, q_mode)));
     let again = modes.map(|mode| (2..4).map(move |q_mode| Event::Again(mode, q_mode)));
@@ -516,7 +562,27 @@ fn of_operations() -> impl Iterator<Item = Event> {
         .into_iter()
         .flatten()
         .chain(again.into_iter().flatten());
-    ends.into_iter().chain(modes).chain(plain)
+    let events = ends.into_iter().chain(modes).chain(plain);
+    events.chain(of_damaged_commands())
+}
+
+/// The events of answers with ERR.
+fn of_damaged_commands() -> impl Iterator<Item = Event> {
+    let modes = [Mode::Single, Mode::Block, Mode::Inline];
+    let standard = modes.map(|mode| (0..4).map(move |q_mode| Event::Damaged(mode, q_mode)));
+    let enhanced = (0..3).map(|q_mode| Event::Damaged(Mode::Enhanced, q_mode));
+    let under = [7, 9, 0xA, 0xB].map(Event::DamagedUnder);
+    let plain = [
+        // The list sequencer is decoded as ignore.
+        Event::Damaged(Mode::Sequencer, 1),
+        Event::DamagedControl,
+        Event::ScanFinishesDamaged,
+        Event::ScanLeavesDamaged,
+        Event::ErrSaved,
+        Event::ScanSkipsErr,
+    ];
+    let standard = standard.into_iter().flatten();
+    standard.chain(enhanced).chain(under).chain(plain)
 }
 
 /// The events of words of transfer mode 2 that are refused.
@@ -539,6 +605,11 @@ fn of_enhanced_words() -> impl Iterator<Item = Event> {
 /// True if the record after an answer still wants the same word.
 fn same_word(before: &Record, after: &Record) -> bool {
     !after.ended && (after.instruction, after.words_left) == (before.instruction, before.words_left)
+}
+
+/// True if a word was moved: its note lies behind the marks before.
+fn moved(before: &Record, after: &Record) -> bool {
+    after.note != before.note
 }
 
 fn mode(camac: &Camac) -> Mode {

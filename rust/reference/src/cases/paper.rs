@@ -2,6 +2,8 @@
 //! the papers give; K1 to K12 are document 01's names, M01 to M70 number the examples. Any
 //! engine with the calls of the C interface can be held against them.
 
+mod damaged;
+
 use super::by_hand::*;
 use crate::camrun::MOST_BYTES;
 
@@ -153,6 +155,35 @@ impl Known {
     }
 }
 
+/// One step from a record on, and what it leaves.
+pub struct KnownStep {
+    name: &'static str,
+    list: Vec<u8>,
+    outgoing: Vec<u8>,
+    before: [u64; 13],
+    reply: [u8; 8],
+    after: [u64; 13],
+    /// Where bytes are stored, and which.
+    stored: Option<(usize, Vec<u8>)>,
+}
+
+impl KnownStep {
+    /// Holds an engine against the step, which ends the run; no other byte may change.
+    pub fn check(&self, engine: &Engine) {
+        let mut record = self.before;
+        let mut incoming = vec![UNTOUCHED; MOST_BYTES];
+        let (list, outgoing) = (&self.list, &self.outgoing);
+        let answer = (engine.step)(list, &mut record, &mut incoming, outgoing, &self.reply);
+        assert_eq!(answer, [0; 8], "{}", self.name);
+        assert_eq!(record, self.after, "{}", self.name);
+        let mut expected = vec![UNTOUCHED; MOST_BYTES];
+        if let Some((at, bytes)) = &self.stored {
+            expected[*at..at + bytes.len()].copy_from_slice(bytes);
+        }
+        assert!(incoming == expected, "{}", self.name);
+    }
+}
+
 fn admission_line(numbers: &[u64; 5]) -> String {
     match *numbers {
         [0, 0, w, b, o] => format!("admitted {w} {b} {o}"),
@@ -222,8 +253,21 @@ pub fn document_01() -> Vec<Known> {
 
 /// Document 02's requests that have landed, in worked examples.
 pub fn document_02() -> Vec<Known> {
-    let requests = [pads(), sequencers(), enhanced_blocks()];
+    let requests = [
+        pads(),
+        sequencers(),
+        enhanced_blocks(),
+        damaged::singles(),
+        damaged::words(),
+        damaged::scans(),
+        damaged::under_greater_codes(),
+    ];
     requests.into_iter().flatten().collect()
+}
+
+/// Single steps of document 02's requests, from a record on.
+pub fn steps() -> Vec<KnownStep> {
+    damaged::steps()
 }
 
 /// E1: the list sequencer, R = 1.
@@ -600,7 +644,8 @@ fn kinds_and_flags() -> Vec<Known> {
         answered("M60, kind 1", saved, &kind(1), "end B B2000080 1 0"),
         answered("M60, kind 2", saved, &kind(2), "end C C0080080 1 0"),
         answered("M60, kind 3", saved, &kind(3), "end D D1000080 1 0"),
-        plain("M61", 0x07, "end 0 00840080 1 2"),
+        // By document 02's E4; document 01 alone let the word be stored.
+        plain("M61", 0x07, "end 4 40840080 1 0"),
         plain("M62", 0x0B, "end 0 04000080 1 2"),
         answered("M63", ignore, &answers(&[0x3C]), "end 0 04B70080 1 2"),
         plain("M64", 0x04, "end 8 80870080 1 0"),

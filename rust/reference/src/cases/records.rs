@@ -164,7 +164,9 @@ fn tries(rng: &mut Rng, camac: &Camac, try_limit: u64) -> u64 {
 fn position(rng: &mut Rng, camac: &Camac) -> Position {
     let mut position = camac.position();
     if camac.q_mode == QMode::Scan {
-        for _ in 0..rng.below(camac.position().positions()) {
+        let last = position.positions() - 1;
+        let any = rng.within(0..=last);
+        for _ in 0..rng.pick(&[any, any, last]) {
             position = position.after_done().expect("a position below P");
         }
     }

@@ -1,5 +1,6 @@
 //! Rows of replies, made along a run so that the run gets far.
 
+use super::by_hand::{answer, DERR, ERR, LPE, Q, TPE, X};
 use super::rng::Rng;
 use crate::record::Record;
 use crate::reply;
@@ -7,12 +8,9 @@ use crate::run::{begin, current_camac, take};
 use crate::walk::Admitted;
 use crate::words::{Camac, QMode};
 
-const Q: u8 = 1;
-const X: u8 = 2;
-const ERR_DERR: u8 = 0b00_1100;
-const PARITY: u8 = 0b11_0000;
-/// TPE, LPE, both.
-const PARITIES: [u8; 3] = [0b01_0000, 0b10_0000, PARITY];
+const PARITY: u8 = TPE | LPE;
+/// What ends a run at Q = X = 1, ERR alone as often as parity errors.
+const MARKS: [u8; 6] = [ERR, ERR, ERR | DERR, TPE, LPE, PARITY | ERR];
 
 /// How the crate answers.
 #[derive(Clone, Copy, Debug, PartialEq, Eq)]
@@ -23,19 +21,22 @@ pub enum Manner {
     Slow,
     /// As many operations as can be.
     Slowest,
-    /// As slow, with a reply of any kind now and then, and parity errors at 23/15.
+    /// As slow, with a reply of any kind now and then.
     Risky,
+    /// As slow, with ERR or a parity error where another cause or the last word can meet it.
+    Marked,
     /// Replies of any kind.
     Wild,
     /// Q = 0 wherever it is met.
     NeverReady,
 }
 
-pub const MANNERS: [Manner; 6] = [
+pub const MANNERS: [Manner; 7] = [
     Manner::Good,
     Manner::Slow,
     Manner::Slowest,
     Manner::Risky,
+    Manner::Marked,
     Manner::Wild,
     Manner::NeverReady,
 ];
@@ -69,13 +70,14 @@ pub fn row_from(
 /// The next reply of a run in one manner.
 pub fn next_reply(rng: &mut Rng, admitted: &Admitted, record: &Record, manner: Manner) -> [u8; 8] {
     let camac = current_camac(&admitted.list, record);
+    let try_limit = admitted.list.try_limit;
     let flags = match manner {
         Manner::Good => Q | X,
-        Manner::Slow => slow(rng, &camac, record, admitted.list.try_limit),
-        Manner::Slowest => slowest(&camac, record, admitted.list.try_limit),
+        Manner::Slow => slow(rng, &camac, record, try_limit),
+        Manner::Slowest => slowest(&camac, record, try_limit),
         Manner::Risky if rng.once_in(12) => return any_reply(rng),
-        Manner::Risky if at_last_place(record) && rng.coin() => Q | X | rng.pick(&PARITIES),
-        Manner::Risky => slow(rng, &camac, record, admitted.list.try_limit),
+        Manner::Risky => slow(rng, &camac, record, try_limit),
+        Manner::Marked => marked(rng, &camac, record, try_limit),
         Manner::Wild => return any_reply(rng),
         Manner::NeverReady => match camac.q_mode {
             QMode::Stop => Q | X,
@@ -83,11 +85,6 @@ pub fn next_reply(rng: &mut Rng, admitted: &Admitted, record: &Record, manner: M
         },
     };
     answer(flags, rng.number() as u32)
-}
-
-fn answer(flags: u8, data: u32) -> [u8; 8] {
-    let [low, middle, high, _] = data.to_le_bytes();
-    [0, flags, 0, 0, low, middle, high, 0]
 }
 
 /// Any well-formed reply.
@@ -102,23 +99,39 @@ pub fn any_reply(rng: &mut Rng) -> [u8; 8] {
     if rng.coin() {
         flags &= !PARITY;
     }
+    if rng.coin() {
+        flags &= !ERR;
+    }
     answer(flags, rng.number() as u32)
 }
 
-/// Where a scan's last word or its leaving can meet a parity error.
-fn at_last_place(record: &Record) -> bool {
-    (record.n, record.a) == (23, 15)
+/// ERR or a parity error, and maybe Q = 0, at a scan's last position, now and then at its last
+/// station, on a repeat's last try and in stop; elsewhere as slow.
+fn marked(rng: &mut Rng, camac: &Camac, record: &Record, try_limit: u64) -> u8 {
+    let last_place = (record.n, record.a) == (23, 15);
+    let last_try = record.tries + 1 == try_limit;
+    let here = match camac.q_mode {
+        QMode::Stop => rng.once_in(12),
+        QMode::Ignore => false,
+        QMode::Repeat => last_try && rng.coin(),
+        QMode::Scan => last_place || (record.n == 23 && rng.once_in(12)),
+    };
+    if !here {
+        return slow(rng, camac, record, try_limit);
+    }
+    let q = if last_place || rng.coin() { Q } else { 0 };
+    q | X | rng.pick(&MARKS)
 }
 
 /// Flags that end nothing: Q = 0 where the mode bears it, X = 0 and parity errors where
-/// AD bears them.
+/// AD bears them, ERR there and beside X = 0.
 fn slow(rng: &mut Rng, camac: &Camac, record: &Record, try_limit: u64) -> u8 {
     let mut flags = Q | X;
     if rng.once_in(4) {
-        flags |= rng.number() as u8 & ERR_DERR;
+        flags |= DERR;
     }
     if camac.abort_disable && rng.once_in(3) {
-        flags |= rng.number() as u8 & PARITY;
+        flags |= rng.number() as u8 & (PARITY | ERR);
     }
     let again = match camac.q_mode {
         QMode::Stop => false,
@@ -133,6 +146,7 @@ fn slow(rng: &mut Rng, camac: &Camac, record: &Record, try_limit: u64) -> u8 {
     let no_x_borne = camac.q_mode != QMode::Scan && camac.abort_disable;
     if (no_x_again || no_x_borne) && rng.once_in(3) {
         flags &= !X;
+        flags |= rng.number() as u8 & ERR;
     }
     flags
 }

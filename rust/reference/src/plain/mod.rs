@@ -114,7 +114,7 @@ fn flags(seen: u64) -> u32 {
 }
 
 /// The bits of an answer, less `CLEAN`, that end the run, by the low five bits of an
-/// instruction's first longword.
+/// instruction's first longword; of ERR `causes_in` says more.
 const CAUSES: [u64; 32] = causes_table();
 
 const fn causes_table() -> [u64; 32] {
@@ -126,7 +126,7 @@ const fn causes_table() -> [u64; 32] {
             table[low] |= NO_Q;
         }
         if !abort_disable {
-            table[low] |= TPE | LPE;
+            table[low] |= TPE | LPE | ERR;
         }
         if !abort_disable && q_mode != SCAN {
             table[low] |= NO_X;
@@ -134,6 +134,18 @@ const fn causes_table() -> [u64; 32] {
         low += 1;
     }
     table
+}
+
+/// Those of the bits `causes` that end the run by this answer: ERR with X = 0 doesn't.
+#[cold]
+#[inline(never)]
+fn causes_in(answer: u64, causes: u64) -> u64 {
+    let found = answer & causes;
+    if answer & NO_X != 0 {
+        found & !ERR
+    } else {
+        found
+    }
 }
 
 /// What the answers of one visit are judged by, and how far it has come.
@@ -245,10 +257,10 @@ impl Visit {
                 break;
             };
             let answer = number(reply) ^ CLEAN;
-            if answer & causes != 0 {
+            if answer & causes != 0 && causes_in(answer, causes) != 0 {
                 break;
             }
-            let is_done = answer & (NO_Q | NO_X) == 0;
+            let is_done = is_done_in_scan(answer);
             let next = place_after(at, is_done);
             if next == PAST_LAST && !(is_done && done + 1 == words) {
                 break;
@@ -300,6 +312,17 @@ fn place_after(place: u64, done: bool) -> u64 {
     } else {
         (place | 15) + 1
     }
+}
+
+fn is_done_in_scan(answer: u64) -> bool {
+    answer & (NO_Q | NO_X) == 0
+}
+
+/// Whether a scan leaves station 23 by this answer.
+fn leaves(visit: &Visit, answer: u64) -> bool {
+    let done = is_done_in_scan(answer);
+    let last_word = visit.done + 1 == visit.command.words as usize;
+    place_after(visit.place, done) == PAST_LAST && !(done && last_word)
 }
 
 /// A 24-bit word takes byte 7 too, which is zero.
@@ -447,29 +470,28 @@ impl Run<'_> {
     }
 
     /// The flag and the code of an answer that ends the run; a word done at the scan's last
-    /// position is moved.
+    /// position, with no other cause, is moved.
     fn cause(&mut self, visit: &Visit, reply: &Reply) -> (u32, u8) {
         let answer = number(reply) ^ CLEAN;
         self.seen |= answer;
-        let parity = answer & visit.causes & (TPE | LPE) != 0;
-        match visit.command.q_mode() {
-            REPEAT if answer & NO_Q != 0 && visit.tries + 1 == visit.try_limit => {
-                (status::TIMEOUT, 0xB)
-            }
-            SCAN => {
-                let done = answer & (NO_Q | NO_X) == 0;
-                let last_word = visit.done + 1 == visit.command.words as usize;
-                let left = place_after(visit.place, done) == PAST_LAST && !(done && last_word);
-                if done && !parity {
-                    self.move_one(visit.command, reply);
-                }
-                let flag = if left { status::SCAN_LEFT } else { 0 };
-                (flag, if parity { 0xA } else { 9 })
-            }
-            _ if parity => (0, 0xA),
-            _ if answer & visit.causes & NO_X != 0 => (0, 8),
-            _ => (0, 7),
+        let causes = causes_in(answer, visit.causes);
+        let q_mode = visit.command.q_mode();
+        let last_try = visit.tries + 1 == visit.try_limit;
+        if q_mode == REPEAT && answer & NO_Q != 0 && last_try {
+            return (status::TIMEOUT, 0xB);
         }
+        let left = q_mode == SCAN && leaves(visit, answer);
+        if left && causes == 0 && is_done_in_scan(answer) {
+            self.move_one(visit.command, reply);
+        }
+        let code = match causes {
+            _ if causes & (TPE | LPE) != 0 => 0xA,
+            _ if left => 9,
+            _ if causes & NO_X != 0 => 8,
+            _ if causes & NO_Q != 0 => 7,
+            _ => 4,
+        };
+        (if left { status::SCAN_LEFT } else { 0 }, code)
     }
 
     #[inline]

@@ -1,0 +1,109 @@
+//! Every reply at every place of a run through each small list of a family: all 64 bytes 1 of
+//! an answer and the three other kinds, from every record that fits, by one step.
+
+mod common;
+#[path = "common/family.rs"]
+mod family;
+
+use common::{compare_step, After, Given};
+use family::family;
+use reference::cases::by_hand::{answer, kind, ERR, X};
+use reference::cases::coverage::Coverage;
+use reference::cases::records::all_fitting;
+use reference::list::Instruction;
+use reference::reply;
+use reference::walk::{admission, Admitted};
+use reference::Record;
+
+/// Every well-formed reply, answers with one data.
+fn replies() -> Vec<[u8; 8]> {
+    let answers = (0..64).map(|flags| answer(flags, 0x56_1234));
+    answers.chain([1, 2, 3].map(kind)).collect()
+}
+
+/// What the steps met.
+struct Met {
+    steps: u64,
+    damaged: u64,
+    coverage: Coverage,
+}
+
+impl Met {
+    /// Compares a step and counts what it met.
+    fn step(&mut self, admitted: &Admitted, given: &Given, before: &Record, reply: &[u8; 8]) {
+        let Given { list, record, .. } = given;
+        let what = format_args!("list {list:02X?}, record {record:?}, reply {reply:02X?}");
+        let after = compare_step(given, reply, what);
+        assert_eq!(after.answer[0], 0, "{what}");
+        if is_damaged(admitted, before, reply) {
+            assert!(ends_moving_nothing(given, &after), "{what}");
+            self.damaged += 1;
+        }
+        self.steps += 1;
+        let reply = reply::read(reply).expect("well formed");
+        let after = Record::from_numbers(&after.record).expect("a record");
+        self.coverage
+            .observe_operation(admitted, before, &reply, &after);
+    }
+}
+
+/// Whether an answer has ERR and X = 1 where AD = 0.
+fn is_damaged(admitted: &Admitted, record: &Record, reply: &[u8; 8]) -> bool {
+    match admitted.list.instructions[record.instruction as usize] {
+        Instruction::Camac(camac) => {
+            let [_, flags, ..] = *reply;
+            !camac.abort_disable && flags & (X | ERR) == X | ERR
+        }
+        _ => panic!("a record that fits stands at a CAMAC instruction"),
+    }
+}
+
+/// Ended with 4 or a greater code of an answer; marks, note and bytes as they were.
+fn ends_moving_nothing<const NUMBERS: usize>(given: &Given, after: &After<NUMBERS>) -> bool {
+    let (old, new) = (&given.record, &after.record);
+    let code = new[9] >> 28;
+    new[0] == 1
+        && [4, 7, 9, 0xA, 0xB].contains(&code)
+        && new[6..8] == old[6..8]
+        && new[10..] == old[10..]
+        && after.incoming == given.incoming
+}
+
+fn compare_list(list: &[u8], met: &mut Met) {
+    let Ok(admitted) = admission(list, u64::MAX, u64::MAX) else {
+        return;
+    };
+    let incoming = vec![0xEE; admitted.counts.b as usize];
+    let outgoing: Vec<u8> = (1..=admitted.counts.o as u8).collect();
+    let replies = replies();
+    for before in all_fitting(&admitted) {
+        let given = Given {
+            list,
+            record: before.numbers(),
+            incoming: &incoming,
+            outgoing: &outgoing,
+        };
+        for reply in &replies {
+            met.step(&admitted, &given, &before, reply);
+        }
+    }
+}
+
+#[test]
+fn every_reply_at_every_place() {
+    let mut met = Met {
+        steps: 0,
+        damaged: 0,
+        coverage: Coverage::of_replies(),
+    };
+    for small in family() {
+        compare_list(&small.list, &mut met);
+    }
+    let Met { steps, damaged, .. } = met;
+    println!("{steps} steps, {damaged} of them with a damaged command");
+    // Of all 67 replies each.
+    assert_eq!(steps, 67 * 14_384);
+    let table = met.coverage.table();
+    println!("{table}");
+    assert_eq!(met.coverage.missing(), [], "never met:\n{table}");
+}
