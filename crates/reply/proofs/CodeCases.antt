@@ -63,7 +63,7 @@ unfolding codeOf causesOf causeChecks
 code-small limit c r NoSync = omega arith
 code-small limit c r NotRecognised = omega arith
 code-small limit c r Timeout = omega arith
-code-small limit c r (Answered a) = greatest-below 13 (causeChecks limit c r a) (omega arith)
+code-small limit c r (Answered a) = greatest-below 13 (causeChecks limit (qmodeOf (c .transfer)) (c .ad) r a) (omega arith)
 
 pub code-below : (limit : ℕ) (c : Command) (r : Record) (reply : Reply) (x : ℕ) → x ≡ codeOf limit c r reply → x ≤ 13
 code-below limit c r reply x e = omega (arith, code-small limit c r reply)
@@ -94,29 +94,19 @@ cause-numbered limit c r reply {code} {codes} e = omega (arith, first reply e, l
     first NoSync e = let same : 13 ≡ code = cc in omega arith
     first NotRecognised e = let same : 12 ≡ code = cc in omega arith
     first Timeout e = let same : 11 ≡ code = cc in omega arith
-    first (Answered a) e = first-numbered (causeChecks limit c r a) (omega arith) e
+    first (Answered a) e = first-numbered (causeChecks limit (qmodeOf (c .transfer)) (c .ad) r a) (omega arith) e
 
 -- The code of an answer --------------------------------------------------------------------------------------------------
-
--- the causes of an answer, the Q-mode by another name
-abbrev pub checksIn : ℕ → Command → Record → Answer → QMode → List Check
-checksIn limit c r a q =
-    spent limit q a (r .tries) gives 11
-    ∷ parityError (c .ad) a gives 10
-    ∷ scanLeaves q a (r .position) (r .left) gives 9
-    ∷ noX q (c .ad) a gives 8
-    ∷ noQInStop q a gives 7
-    ∷ damaged (c .ad) a gives 4
-    ∷ []
 
 -- where the causes before place k fail and the one there holds, its number is the code
 pub code-at :
     (limit : ℕ) (c : Command) (r : Record) (a : Answer) (q : QMode) → q ≡ qmodeOf (c .transfer) → (k : ℕ)
-    → FirstAt k (checksIn limit c r a q) → numberAt k (checksIn limit c r a q) ≡ codeOf limit c r (Answered a)
+    → FirstAt k (causeChecks limit q (c .ad) r a) → numberAt k (causeChecks limit q (c .ad) r a) ≡ codeOf limit c r (Answered a)
 unfolding codeOf causesOf causeChecks
 code-at limit c r a q e k h =
-    sym (first-at k (checksIn limit c r a q) h)
-    ∙ (sym (greatest-first (checksIn limit c r a q) (omega arith)) ∙ ap (λ (x : QMode). greatest (allThatHold (checksIn limit c r a x))) e)
+    sym (first-at k (causeChecks limit q (c .ad) r a) h)
+    ∙ (sym (greatest-first (causeChecks limit q (c .ad) r a) (omega arith))
+    ∙ ap (λ (x : QMode). greatest (allThatHold (causeChecks limit x (c .ad) r a))) e)
 
 -- an answer that is no cause
 pub record NoCause (limit : ℕ) (c : Command) (r : Record) (a : Answer) : Type 0 where

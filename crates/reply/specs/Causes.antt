@@ -28,15 +28,15 @@ parityError ad a = (a .tpe || a .lpe) && not ad
 abbrev pub damaged : Bool → Answer → Bool
 damaged ad a = (a .err && a .x) && not ad
 
--- the causes of an answer with their codes
-unfoldable pub causeChecks : ℕ → Command → Record → Answer → List Check
-causeChecks limit c r a =
-    spent limit (qmodeOf (c .transfer)) a (r .tries) gives 11
-    ∷ parityError (c .ad) a gives 10
-    ∷ scanLeaves (qmodeOf (c .transfer)) a (r .position) (r .left) gives 9
-    ∷ noX (qmodeOf (c .transfer)) (c .ad) a gives 8
-    ∷ noQInStop (qmodeOf (c .transfer)) a gives 7
-    ∷ damaged (c .ad) a gives 4
+-- the causes of an answer with their codes, by Q-mode and AD
+unfoldable pub causeChecks : ℕ → QMode → Bool → Record → Answer → List Check
+causeChecks limit q ad r a =
+    spent limit q a (r .tries) gives 11
+    ∷ parityError ad a gives 10
+    ∷ scanLeaves q a (r .position) (r .left) gives 9
+    ∷ noX q ad a gives 8
+    ∷ noQInStop q a gives 7
+    ∷ damaged ad a gives 4
     ∷ []
 
 -- the numbers of all checks of a row that hold
@@ -49,7 +49,7 @@ unfoldable pub causesOf : ℕ → Command → Record → Reply → List ℕ
 causesOf limit c r NoSync = 13 ∷ []
 causesOf limit c r NotRecognised = 12 ∷ []
 causesOf limit c r Timeout = 11 ∷ []
-causesOf limit c r (Answered a) = allThatHold (causeChecks limit c r a)
+causesOf limit c r (Answered a) = allThatHold (causeChecks limit (qmodeOf (c .transfer)) (c .ad) r a)
 
 -- "The greatest code wins"; 0 where there is no cause
 abbrev pub greatest : List ℕ → ℕ

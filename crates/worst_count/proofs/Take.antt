@@ -48,7 +48,7 @@ module _ (p : Plan) (incoming outgoing : List ℕ) (hl : 1 ≤ p .limit) (hh : H
   no-cause NotRecognised e = let z : _≡_ {A = ℕ} 0 1 = cc in absurd (omega arith)
   no-cause Timeout e = let z : _≡_ {A = ℕ} 0 1 = cc in absurd (omega arith)
   no-cause (Answered a) e =
-      let c : Passed (causeChecks (p .limit) (l .command) (s .run) a) = none-hold (causeChecks (p .limit) (l .command) (s .run) a) e in (
+      let c : Passed (causeChecks (p .limit) (qmodeOf (l .command .transfer)) (l .command .ad) (s .run) a) = none-hold (causeChecks (p .limit) (qmodeOf (l .command .transfer)) (l .command .ad) (s .run) a) e in (
         flags-only (p .limit) (l .command) (s .run) a (c .0) (c .1 .1 .0),
         answer-progress (p .limit) (qmodeOf (l .command .transfer)) (positionOf (l .command .transfer)) (s .run .position) (s .run .left)
             (s .run .tries) (worstOver (p .limit) (l .post)) a (l .some) (l .tried) (l .position) (c .0) (c .1 .1 .0) (c .1 .1 .1 .1 .0),

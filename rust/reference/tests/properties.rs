@@ -12,7 +12,7 @@ use reference::list::Instruction;
 use reference::scan::Position;
 use reference::walk::{admission, Admitted};
 use reference::words::{decode, Camac};
-use reference::{run_row, start, step, Record};
+use reference::{run_row, start, step, Answer, Record};
 
 const CASES: u64 = if cfg!(debug_assertions) {
     3_000
@@ -216,20 +216,24 @@ fn read_scan(first: Position, words: u64) -> Camac {
     decode(naf | 0x013A, Some((words as u32).wrapping_neg())).expect("a scan")
 }
 
+/// The step cases of a seed that are taken, each with its answer and the incoming buffer after.
+fn taken(seed: u64) -> impl Iterator<Item = (StepCase, Answer, Vec<u8>)> {
+    let cases = (0..CASES).map(move |number| step_case(seed, number));
+    cases.filter_map(|case| {
+        let (answer, incoming) = case.stepped();
+        answer.refusal.is_none().then_some((case, answer, incoming))
+    })
+}
+
 /// Fit is closed under taken steps, for any record that fits, and each step uses up at
 /// least one of the operations still possible.
 #[test]
 fn fit_is_closed_under_taken_steps() {
-    for number in 0..CASES {
-        let case = step_case(5, number);
+    for (case, answer, _) in taken(5) {
         let lengths = (case.incoming.len() as u64, case.outgoing.len() as u64);
-        let (answer, _) = case.stepped();
-        if answer.refusal.is_some() {
-            continue;
-        }
         let admitted = admission(&case.list, lengths.0, lengths.1).expect("admitted");
         let (before, after) = (case.record, answer.record);
-        assert!(after.ended || fits(&admitted, &after), "case {number}");
+        assert!(after.ended || fits(&admitted, &after), "{case:?}");
         assert_eq!(after.operations, before.operations + 1);
         let most = most_still_possible(&admitted, &before);
         assert!(most >= 1);
@@ -242,14 +246,9 @@ fn fit_is_closed_under_taken_steps() {
 #[test]
 fn a_damaged_command_ends_the_run_and_moves_no_word() {
     let mut ended = 0;
-    for number in 0..CASES {
-        let case = step_case(9, number);
-        let (answer, incoming) = case.stepped();
-        if answer.refusal.is_some() || !is_damaged(&case) {
-            continue;
-        }
+    for (case, answer, incoming) in taken(9).filter(|(case, ..)| is_damaged(case)) {
         let (before, after) = (case.record, answer.record);
-        assert!(after.ended, "case {number}");
+        assert!(after.ended, "{case:?}");
         assert!([4, 7, 9, 0xA, 0xB].contains(&(after.status >> 28)));
         assert_eq!(after.status & ERR_BITS, ERR_BITS);
         assert_eq!(after.note, before.note);
@@ -266,19 +265,14 @@ fn a_damaged_command_ends_the_run_and_moves_no_word() {
 #[test]
 fn err_without_x_or_with_ad_is_only_gathered() {
     let mut gathered = 0;
-    for number in 0..CASES {
-        let case = step_case(10, number);
-        let (answer, incoming) = case.stepped();
-        let has_err = case.reply.get(1).is_some_and(|flags| flags & ERR != 0);
-        if answer.refusal.is_some() || !has_err || is_damaged(&case) {
-            continue;
-        }
+    let is_borne = |case: &StepCase| case.reply[1] & ERR != 0 && !is_damaged(case);
+    for (case, answer, incoming) in taken(10).filter(|(case, ..)| is_borne(case)) {
         let mut without = case.clone();
         without.reply[1] &= !ERR;
         let (mut plain, plain_incoming) = without.stepped();
         assert_eq!(answer.record.status & ERR_BITS, ERR_BITS);
         plain.record.status |= ERR_BITS;
-        assert_eq!((answer, incoming), (plain, plain_incoming), "case {number}");
+        assert_eq!((answer, incoming), (plain, plain_incoming), "{case:?}");
         gathered += 1;
     }
     assert!(gathered > CASES / 100);

@@ -1,6 +1,6 @@
 -- `moves_at_end` is `movesAtEnd`: a done word with 9 as the only cause.
 use borrow.Author.Needs.{needs}
-use mathlib.Core.Path.{sym, _∙_}
+use mathlib.Core.Path.{sym}
 use mathlib.Core.Bool.{and-true, and-false}
 use Rattle.camac.specs.Words.{qmodeOf}
 use Rattle.reply.specs.Causes.{doneBy}

@@ -1,6 +1,7 @@
 -- `answer_code` is `codeOf` of an answer: its causes are asked from the greatest code on, and the first that holds gives the code.
 use borrow.Author.Needs.{needs}
 use mathlib.Core.Path.{sym, _∙_}
+use Rattle.reply.specs.Causes.{causeChecks}
 use Rattle.reply.proofs.CodeCases.{code-at}
 use Rattle.reply.proofs.causes.answer_code.Statement.{statement}
 use Rattle.reply.proofs.causes.answer_code.Tie as tie
@@ -12,6 +13,7 @@ is-spent-requires : tie.Need-is-spent-requires
 is-spent-requires c κs = search needs
 
 returns : tie.Need-returns
+unfolding causeChecks
 returns c =
     code-at _ _ _ _ _ (c .before .before .qmode-of .ensures) 0
     (sym (c .before .is-spent .ensures) ∙ c .if1 .taken)
@@ -20,6 +22,7 @@ has-parity-error-requires : tie.Need-has-parity-error-requires
 has-parity-error-requires c κs = search needs
 
 returns-2 : tie.Need-returns-2
+unfolding causeChecks
 returns-2 c =
     let else1 = c .before .before in
     let unspent = sym (else1 .before .is-spent .ensures) ∙ else1 .if1 .left in
@@ -30,6 +33,7 @@ scan-leaves-requires : tie.Need-scan-leaves-requires
 scan-leaves-requires c κs = search needs
 
 returns-3 : tie.Need-returns-3
+unfolding causeChecks
 returns-3 c =
     let else2 = c .before .before in
     let else1 = else2 .before .before in
@@ -42,6 +46,7 @@ has-no-x-requires : tie.Need-has-no-x-requires
 has-no-x-requires c κs = search needs
 
 returns-4 : tie.Need-returns-4
+unfolding causeChecks
 returns-4 c =
     let else3 = c .before .before in
     let else2 = else3 .before .before in
@@ -56,6 +61,7 @@ has-no-q-requires : tie.Need-has-no-q-requires
 has-no-q-requires c κs = search needs
 
 returns-5 : tie.Need-returns-5
+unfolding causeChecks
 returns-5 c =
     let else4 = c .before .before in
     let else3 = else4 .before .before in
@@ -72,6 +78,7 @@ is-damaged-requires : tie.Need-is-damaged-requires
 is-damaged-requires c κs = search needs
 
 returns-6 : tie.Need-returns-6
+unfolding causeChecks
 returns-6 c =
     let else5 = c .before .before in
     let else4 = else5 .before .before in
@@ -87,6 +94,7 @@ returns-6 c =
     (unspent, (clean, (stays, (x, (q, sym (c .before .is-damaged .ensures) ∙ c .if6 .taken)))))
 
 returns-7 : tie.Need-returns-7
+unfolding causeChecks
 returns-7 c =
     let else5 = c .before .before in
     let else4 = else5 .before .before in

@@ -52,32 +52,28 @@ pub fn singles() -> Vec<Known> {
 
 /// Blocks, repeats and the list sequencer, some behind words that were moved.
 pub fn words() -> Vec<Known> {
-    let second = after_words(&[0x56_1234], DAMAGED);
-    let narrow = "end 4 40840080 2 2";
-    let wide = "end 4 40840080 2 4";
+    let second = |name, field, admission, ending, stored| {
+        let row = after_words(&[0x56_1234], DAMAGED);
+        of(name, field, admission).run(row, ending).stores(stored)
+    };
+    let narrow =
+        |name, field, admission| second(name, field, admission, "end 4 40840080 2 2", "34 12");
+    let wide = |name, field, admission| {
+        second(name, field, admission, "end 4 40840080 2 4", "34 12 56 00")
+    };
     let three = |first| double(first, 0xFFFF_FFFD);
     let two = |first| double(first, 0xFFFF_FFFC);
     let padded = single(0x0200_0102) + &single(0x0200_0100);
     vec![
-        of("E4, stop block", three(0x0200_0122), "admitted 3 6 0")
-            .run(second.clone(), narrow)
-            .stores("34 12"),
-        of("E4, ignore block", three(0x0200_012A), "admitted 3 6 0")
-            .run(second.clone(), narrow)
-            .stores("34 12"),
-        of("E4, enhanced block", two(0x0200_0140), "admitted 2 8 0")
-            .run(second.clone(), wide)
-            .stores("34 12 56 00"),
-        of("E4, list sequencer", two(0x3C0C_0158), "admitted 2 8 0")
-            .run(second.clone(), wide)
-            .stores("34 12 56 00"),
+        narrow("E4, stop block", three(0x0200_0122), "admitted 3 6 0"),
+        narrow("E4, ignore block", three(0x0200_012A), "admitted 3 6 0"),
+        wide("E4, enhanced block", two(0x0200_0140), "admitted 2 8 0"),
+        wide("E4, list sequencer", two(0x3C0C_0158), "admitted 2 8 0"),
         of("E4, A 2", two(0x3C4C_0158), "admitted 2 0 8")
             .outgoing(vec![0; 8])
             .run(answers(&[X | ERR]), "end 4 40850080 1 0"),
         // Nor is the pad written that the word would have brought.
-        of("E4, pad", padded, "admitted 2 8 0")
-            .run(second, narrow)
-            .stores("34 12"),
+        narrow("E4, pad", padded, "admitted 2 8 0"),
         Known::new("E4, repeat", repeat(), "admitted 6 8 0")
             .run(answers(&[X | ERR]), "end 4 40850080 1 0"),
         Known::new("E4, repeat, Q = 1", repeat(), "admitted 6 8 0")
