@@ -1,6 +1,7 @@
 /*
  * The crate list engine for hosts in C and C++. Lists, replies, packing, status and refusals are those of document 01, "The crate list engine",
- * with enhanced blocks and the list sequencer (document 02, E1), and with runs that a damaged command ends (E4).
+ * with enhanced blocks and the list sequencer (document 02, E1), with runs that a damaged command ends (E4), and with Q and X in the longwords of
+ * 24-bit words (E9).
  * Link libhost.a, which `rt staticlib host` makes for x86-64 Linux; every function that is declared and not defined here is proved.
  *
  * Which call. camlist_admit says whether a list is well formed and what it can need. A host that drives a crate calls camlist_start, makes the
@@ -18,7 +19,7 @@
  *
  * Versions. The names below stand for symbols with the version in them: an object that was compiled with the header of another version does
  * not link. Name the sizes of arrays by their constants. Version 2: the operation wanted has a sixth number, "enhanced", so that the answers of
- * camlist_start, camlist_step and camlist_steps are one number longer.
+ * camlist_start, camlist_step and camlist_steps are one number longer. E9 came within version 2: a stored 24-bit word's top byte was zero before it.
  */
 #ifndef CAMLIST_H
 #define CAMLIST_H
@@ -212,6 +213,37 @@ static inline const char *camlist_refusal_text(uint64_t number)
     case CAMLIST_REFUSED_ENDED: return "the run has ended";
     default: return "unknown refusal";
     }
+}
+
+/* What was stored is read ------------------------------------------------------------------------------------------------------------------ */
+
+/* A 24-bit word that was read is a longword of the incoming buffer: its data, and Q and X of the answer that brought it; bits 29 to 24 are zero.
+   X is 0 only with AD = 1 and never in scan, Q is 0 only in ignore mode and from the list sequencer. This is not so of a 16-bit word, which is
+   two bytes of data, low byte first, nor of a literal, which is the longword that the list has. */
+#define CAMLIST_WORD_Q 0x80000000u    /* 31 */
+#define CAMLIST_WORD_X 0x40000000u    /* 30 */
+#define CAMLIST_WORD_DATA 0x00FFFFFFu /* 23 to 0 */
+
+/* The longword of four bytes of a buffer, low byte first on every host. A 24-bit word or a literal lies at a multiple of 4. */
+static inline uint32_t camlist_longword(const uint8_t bytes[4])
+{
+    return bytes[0] | (uint32_t)bytes[1] << 8 | (uint32_t)bytes[2] << 16 | (uint32_t)bytes[3] << 24;
+}
+
+/* Of a 24-bit word's longword: its data, and 1 or 0 for Q and for X. */
+static inline uint32_t camlist_word_data(uint32_t longword)
+{
+    return longword & CAMLIST_WORD_DATA;
+}
+
+static inline int camlist_word_q(uint32_t longword)
+{
+    return (longword & CAMLIST_WORD_Q) != 0;
+}
+
+static inline int camlist_word_x(uint32_t longword)
+{
+    return (longword & CAMLIST_WORD_X) != 0;
 }
 
 /* Lists and rows of replies are written --------------------------------------------------------------------------------------------------- */

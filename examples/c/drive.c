@@ -106,6 +106,7 @@ static void print_record(const uint64_t record[CAMLIST_RECORD_NUMBERS])
 static void drive(struct run *run)
 {
     uint64_t answer[CAMLIST_CALL_NUMBERS];
+    uint32_t result; /* stored first, at offset 0 */
 
     start(run, answer);
     while (answer[CAMLIST_NUMBER] == CAMLIST_NOT_REFUSED && !run->record[CAMLIST_RECORD_ENDED] && !replies.failed) {
@@ -121,6 +122,8 @@ static void drive(struct run *run)
     for (uint64_t at = 0; at < run->record[CAMLIST_RECORD_INCOMING_MARK]; at++) {
         printf("%02X%s", run->incoming[at], at + 1 < run->record[CAMLIST_RECORD_INCOMING_MARK] ? " " : "\n");
     }
+    result = camlist_longword(run->incoming);
+    printf("the ADC's result: %06" PRIX32 " with Q = %d, X = %d\n", camlist_word_data(result), camlist_word_q(result), camlist_word_x(result));
     step(run, replies.bytes, answer);
     print_refusal("a reply after the end", answer);
 }

@@ -1,6 +1,6 @@
 /*
  * Admits lists, runs them over replies that stand for a crate's, and prints the samples and how each run ended: document 01's worked
- * case, a digitizer read in one block, a crate that falls silent, and a list that is refused.
+ * case, a digitizer read in one block, a crate that falls silent, a list that is refused, and 24-bit scalers of which one does not answer.
  *
  * `rt staticlib host` in the repository's root, then `make run` here.
  */
@@ -26,6 +26,16 @@ static void print_samples(const uint8_t *incoming, uint64_t mark)
     }
 }
 
+/* 24-bit words: which came with X = 0, from a station that did not answer, and which with Q = 0. */
+static void print_wide(const uint8_t *incoming, uint64_t mark)
+{
+    for (uint64_t at = 0; at + 4 <= mark; at += 4) {
+        uint32_t longword = camlist_longword(incoming + at);
+        printf("  %08" PRIX32 ": %8" PRIu32 "%s%s\n", longword, camlist_word_data(longword), camlist_word_q(longword) ? "" : ", Q = 0",
+               camlist_word_x(longword) ? "" : ", X = 0");
+    }
+}
+
 static void print_ending(const uint64_t record[CAMLIST_RECORD_NUMBERS])
 {
     uint64_t status = record[CAMLIST_RECORD_STATUS];
@@ -43,8 +53,9 @@ static void print_ending(const uint64_t record[CAMLIST_RECORD_NUMBERS])
            status & CAMLIST_STATUS_NO_Q ? ", Q = 0 met" : "");
 }
 
-/* Admits and runs a list of 16-bit reads. */
-static void read_out(const char *title, const camlist_bytes *list, const uint8_t *replies, size_t replies_len)
+/* Admits and runs a list of reads, all of one word size. */
+static void read_out(const char *title, const camlist_bytes *list, const uint8_t *replies, size_t replies_len,
+                     void (*print)(const uint8_t *incoming, uint64_t mark))
 {
     uint8_t incoming[2 * SAMPLES] = {0};
     uint64_t admission[CAMLIST_ADMIT_NUMBERS];
@@ -64,18 +75,21 @@ static void read_out(const char *title, const camlist_bytes *list, const uint8_t
         print_refusal(answer);
         return;
     }
-    print_samples(incoming, record[CAMLIST_RECORD_INCOMING_MARK]);
+    print(incoming, record[CAMLIST_RECORD_INCOMING_MARK]);
     print_ending(record);
 }
 
 int main(void)
 {
-    uint8_t room[3][32];
+    uint8_t room[4][32];
     camlist_bytes worked = {room[0], sizeof room[0], 0, 0};
     camlist_bytes digitizer = {room[1], sizeof room[1], 0, 0};
     camlist_bytes nowhere = {room[2], sizeof room[2], 0, 0};
+    camlist_bytes scalers = {room[3], sizeof room[3], 0, 0};
     uint8_t worked_room[CAMLIST_REPLY_BYTES];
     camlist_bytes worked_row = {worked_room, sizeof worked_room, 0, 0};
+    uint8_t counts_room[3 * CAMLIST_REPLY_BYTES];
+    camlist_bytes counts = {counts_room, sizeof counts_room, 0, 0};
     uint8_t pulse_room[SAMPLES * CAMLIST_REPLY_BYTES];
     camlist_bytes pulse = {pulse_room, sizeof pulse_room, 0, 0};
     unsigned height = 100;
@@ -98,17 +112,29 @@ int main(void)
         height = i == 16 ? 40000 : height > 100 ? height - (height - 100) / 4 : 100;
         camlist_put_answer(&pulse, i == SAMPLES - 1 ? CAMLIST_X : CAMLIST_Q | CAMLIST_X, height);
     }
-    if (worked.failed || digitizer.failed || nowhere.failed || worked_row.failed || pulse.failed) {
+
+    /* Scalers at three stations; there is none at station 10, and the one at 11 is still counting. AD = 1: the run goes on. */
+    camlist_put_head(&scalers, TRY_LIMIT);
+    for (unsigned n = 9; n <= 11; n++) {
+        camlist_put_single(&scalers, 3, n, 0, 0, CAMLIST_IGNORE | CAMLIST_ABORT_DISABLE);
+    }
+    camlist_put_halt(&scalers);
+    camlist_put_answer(&counts, CAMLIST_Q | CAMLIST_X, 1234567);
+    camlist_put_answer(&counts, 0, 0);
+    camlist_put_answer(&counts, CAMLIST_X, 890);
+
+    if (worked.failed || digitizer.failed || nowhere.failed || scalers.failed || worked_row.failed || counts.failed || pulse.failed) {
         return 1;
     }
-    read_out("Worked case", &worked, worked_row.bytes, worked_row.length);
-    read_out("Digitizer", &digitizer, pulse.bytes, pulse.length);
-    read_out("Digitizer, first 20 replies", &digitizer, pulse.bytes, 20 * CAMLIST_REPLY_BYTES);
+    read_out("Worked case", &worked, worked_row.bytes, worked_row.length, print_samples);
+    read_out("Digitizer", &digitizer, pulse.bytes, pulse.length, print_samples);
+    read_out("Digitizer, first 20 replies", &digitizer, pulse.bytes, 20 * CAMLIST_REPLY_BYTES, print_samples);
     pulse.length = 8 * CAMLIST_REPLY_BYTES;
     camlist_put_timeout(&pulse);
     pulse.length = sizeof pulse_room;
-    read_out("Digitizer that falls silent", &digitizer, pulse.bytes, pulse.length);
-    read_out("Station 24", &nowhere, pulse.bytes, pulse.length);
-    read_out("Half a reply", &digitizer, pulse.bytes, CAMLIST_REPLY_BYTES / 2);
+    read_out("Digitizer that falls silent", &digitizer, pulse.bytes, pulse.length, print_samples);
+    read_out("Station 24", &nowhere, pulse.bytes, pulse.length, print_samples);
+    read_out("Half a reply", &digitizer, pulse.bytes, CAMLIST_REPLY_BYTES / 2, print_samples);
+    read_out("Scalers", &scalers, counts.bytes, counts.length, print_wide);
     return 0;
 }

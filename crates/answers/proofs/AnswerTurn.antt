@@ -36,10 +36,10 @@ use Rattle.reply.specs.declared.replies.Reply.{Reply}
 use Rattle.reply.specs.declared.replies.Reply.the-variants.{Answered}
 use Rattle.reply.proofs.CodeCases.{NoCause, no-causes}
 use Rattle.take.proofs.Onward.{runs-alike}
-use Rattle.row.specs.model.Words.{Answered as Read, longwordIn, flagsAt, flagBits, gatheredBits, wordsStored, answerBy}
+use Rattle.row.specs.model.Words.{Answered as Read, dataIn, longwordIn, flagsAt, flagBits, gatheredBits, wordsStored, answerBy}
 use Rattle.row.proofs.BitLaws.{or-assoc}
 use Rattle.row.proofs.Flags.{Fine, flags-word, flags-wait}
-use Rattle.row.proofs.WordLaws.{reply-flags, dataAt, reply-answered, reply-longword, first-word}
+use Rattle.row.proofs.WordLaws.{reply-flags, reply-answered, reply-longword, first-word}
 use Rattle.answers.specs.model.Visit.{rulesOf, positionAt, recordAt, marksBehind, noteBehind, afterWords, bytesBy, bytesAfter, afterWait, Words, Waits}
 use Rattle.answers.specs.declared.Stay.{Stay}
 use Rattle.answers.proofs.VisitRoom.{ahead-most, bytes-length}
@@ -166,7 +166,7 @@ module _ {row : List ℕ} {answers : ℕ} (read : Read row answers) (limit : ℕ
   h = omega (arith, read .within)
 
   abbrev word : ℕ
-  word = dataAt row (read .formed) (u .taken) h
+  word = dataIn row (u .taken * 8)
 
   abbrev answer : Answer
   answer = answerBy (flagsAt row (u .taken)) word

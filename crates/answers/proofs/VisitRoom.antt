@@ -116,14 +116,17 @@ marks-even Incoming wide k m e = record { incoming = words-even wide k (m .incom
 marks-even Outgoing wide k m e = record { incoming = e .incoming; outgoing = words-even wide k (m .outgoing) (e .outgoing) }
 marks-even Neither wide k m e = e
 
--- behind one word
-module _ (d : Direction) (wide : Bool) (m : Marks) (n : ℕ) where
-  pub read-mark : d ≡ Incoming → n ≡ markAfter wide (m .incoming) → record { incoming = n; outgoing = m .outgoing } ≡ marksBehind d wide 1 m
-  unfolding markAfterWords
+-- behind words read, and behind words written
+module _ (d : Direction) (wide : Bool) (m : Marks) (n k : ℕ) where
+  pub read-mark : d ≡ Incoming → n ≡ markAfterWords wide k (m .incoming) → record { incoming = n; outgoing = m .outgoing } ≡ marksBehind d wide k m
   read-mark e h = rw (e, h)
 
-  pub written-mark : d ≡ Outgoing → n ≡ markAfterWords wide 1 (m .outgoing) → record { incoming = m .incoming; outgoing = n } ≡ marksBehind d wide 1 m
+  pub written-mark : d ≡ Outgoing → n ≡ markAfterWords wide k (m .outgoing) → record { incoming = m .incoming; outgoing = n } ≡ marksBehind d wide k m
   written-mark e h = rw (e, h)
+
+pub mark-one : (wide : Bool) (mark : ℕ) → markAfter wide mark ≡ markAfterWords wide 1 mark
+unfolding markAfterWords
+mark-one wide mark = refl
 
 word-below : (wide : Bool) (k m : ℕ) → 1 ≤ k → widthOf wide ≤ markAfterWords wide k m
 unfolding markAfterWords markAfter

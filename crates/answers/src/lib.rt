@@ -18,7 +18,7 @@ ghost use Rattle.qmodes.specs.model.Answers.{wordsAhead};
 ghost use Rattle.camac.specs.model.Bits.{Passes};
 ghost use Rattle.packing.specs.Packing.{markAfterWords};
 ghost use Rattle.packing.specs.model.Marks.{MarksTo};
-ghost use Rattle.row.specs.model.Words.{flagsAt};
+ghost use Rattle.row.specs.model.Words.{flagsAt, Tops};
 ghost use Rattle.answers.specs.model.Visit.{rulesIn, marksBehind, noteBehind, NoteRoom, afterWords, bytesAfter, waitedWith, afterWait, Words, Takes, Waits, Passed, Roomy};
 
 // What an instruction decides for its answers: how its words move, and the flags that make an answer a word or, where it is none, no cause.
@@ -141,16 +141,17 @@ fn take_words(
     incoming: &mut [u8],
     row: &[u8],
     answers: usize,
+    tops: &[u32; 64],
 ) -> Stay
     requires { ⌜ Roomy rules (now row) answers here (now incoming) × Words rules (now row) answers here 1
-        × ((1 ≤ most) × ((most ≤ wordsAhead (rules .q) (here .position) (here .left)) × (here .taken + most ≤ answers))) ⌝ }
+        × ((1 ≤ most) × ((most ≤ wordsAhead (rules .q) (here .position) (here .left)) × (here .taken + most ≤ answers))) × Tops (now tops) ⌝ }
     ensures { λ s. ⌜ Takes rules (now (row .entry)) answers here (now (incoming .entry)) s (now (incoming .exit)) ⌝ }
 {
     let direction = rules.direction;
     let marks = here.marks;
     match direction {
         Direction::Incoming => {
-            let words = read_words(
+            let read = read_words(
                 rules.wide,
                 incoming,
                 marks.incoming,
@@ -158,8 +159,13 @@ fn take_words(
                 here.taken,
                 most,
                 rules.word,
+                tops,
             );
-            after_words(rules, here, words)
+            let behind = Marks {
+                incoming: read.mark,
+                outgoing: marks.outgoing,
+            };
+            behind_words(rules, here, read.words, behind)
         }
         Direction::Outgoing => {
             let words = pass_words(row, here.taken, most, rules.word);
@@ -173,8 +179,15 @@ fn take_words(
 }
 
 // The one word left, stored where it is read: the marks behind it.
-fn last_word(rules: Rules, here: Stay, incoming: &mut [u8], row: &[u8], answers: usize) -> Marks
-    requires { ⌜ Roomy rules (now row) answers here (now incoming) × Words rules (now row) answers here 1 ⌝ }
+fn last_word(
+    rules: Rules,
+    here: Stay,
+    incoming: &mut [u8],
+    row: &[u8],
+    answers: usize,
+    tops: &[u32; 64],
+) -> Marks
+    requires { ⌜ Roomy rules (now row) answers here (now incoming) × Words rules (now row) answers here 1 × Tops (now tops) ⌝ }
     ensures { λ m. ⌜ (m ≡ marksBehind (rules .direction) (rules .wide) 1 (here .marks))
         × (now (incoming .exit) ≡ bytesAfter rules (now (row .entry)) 1 here (now (incoming .entry))) ⌝ }
 {
@@ -182,7 +195,7 @@ fn last_word(rules: Rules, here: Stay, incoming: &mut [u8], row: &[u8], answers:
     let marks = here.marks;
     match direction {
         Direction::Incoming => Marks {
-            incoming: read_word(rules.wide, incoming, marks.incoming, row, here.taken),
+            incoming: read_word(rules.wide, incoming, marks.incoming, row, here.taken, tops),
             outgoing: marks.outgoing,
         },
         Direction::Outgoing => Marks {
@@ -250,8 +263,9 @@ fn visit_on(
     incoming: &mut [u8],
     row: &[u8],
     answers: usize,
+    tops: &[u32; 64],
 ) -> Stay
-    requires { ⌜ (limit < 65536) × Roomy rules (now row) answers from (now incoming) ⌝ }
+    requires { ⌜ (limit < 65536) × Roomy rules (now row) answers from (now incoming) × Tops (now tops) ⌝ }
     ensures { λ s. ⌜ Passed rules limit (now (row .entry)) answers from (now (incoming .entry)) s (now (incoming .exit)) ⌝ }
 {
     let mut here = from;
@@ -266,7 +280,7 @@ fn visit_on(
             if most == 0 {
                 return here;
             }
-            here = take_words(rules, here, most, incoming, row, answers);
+            here = take_words(rules, here, most, incoming, row, answers, tops);
         } else {
             if !is_wait(rules, limit, here, row, answers) {
                 return here;
@@ -301,14 +315,15 @@ pub fn visit(
     incoming: &mut [u8],
     row: &[u8],
     answers: usize,
+    tops: &[u32; 64],
 ) -> Stay
-    requires { ⌜ (limit < 65536) × (Passes first × Roomy (rulesIn first) (now row) answers from (now incoming)) ⌝ }
+    requires { ⌜ (limit < 65536) × (Passes first × Roomy (rulesIn first) (now row) answers from (now incoming)) × Tops (now tops) ⌝ }
     ensures { λ s. ⌜ Passed (rulesIn first) limit (now (row .entry)) answers from (now (incoming .entry)) s (now (incoming .exit)) ⌝ }
 {
     if is_last(first, from, row, answers) {
         let rules = rules_in(first);
-        let marks = last_word(rules, from, incoming, row, answers);
+        let marks = last_word(rules, from, incoming, row, answers, tops);
         return behind_words(rules, from, 1, marks);
     }
-    visit_on(rules_in(first), limit, from, incoming, row, answers)
+    visit_on(rules_in(first), limit, from, incoming, row, answers, tops)
 }

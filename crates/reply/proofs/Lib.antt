@@ -1,3 +1,4 @@
 pub mod ReplyFacts
 pub mod Rows
 pub mod CodeCases
+pub mod LongwordLaws

@@ -118,9 +118,10 @@ runOn (v ∷ vs) s = elim (v .instruction) [
 
 -- One word ---------------------------------------------------------------------------------------------------------------
 
--- the longword that a read's word is stored as: "a 24-bit word's top byte is zero". Kinds 1 to 3 "have every other byte zero".
+-- the longword that a read's word is stored as, of which a 16-bit word is the low half: "bit 31 becomes Q and bit 30 X; bits 29–24 stay
+-- zero" (document 02, E9). Kinds 1 to 3 "have every other byte zero".
 abbrev pub longwordOf : Reply → ℕ
-longwordOf (Answered a) = a .word % 2 ^ 24
+longwordOf (Answered a) = a .word % 2 ^ 24 + (if a .x then 2 ^ 30 else 0) + (if a .q then 2 ^ 31 else 0)
 longwordOf Timeout = 0
 longwordOf NotRecognised = 0
 longwordOf NoSync = 0

@@ -8,6 +8,11 @@ ghost use mathlib.Core.Option.{some};
 ghost use Rattle.reply.specs.Replies.{answerIn, replyOf, isFormed};
 ghost use Rattle.reply.specs.model.Decoded.{formedBy};
 
+// The bits of a stored longword that are its answer's X and Q.
+pub const X_BIT: u32 = 1 << 30;
+
+pub const Q_BIT: u32 = 1 << 31;
+
 pub enum Reply {
     Answered(Answer),
     Timeout,

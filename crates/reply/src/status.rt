@@ -39,7 +39,7 @@ pub const ENDED: u32 = 1 << 7;
 pub const WAITING_BITS: u32 = NO_Q | NO_X | ERROR | TPE | LPE | ERR | DERR;
 
 // A value where a test holds, else 0.
-pub(crate) fn value_if(holds: bool, value: u32) -> u32
+pub fn value_if(holds: bool, value: u32) -> u32
     ensures { λ r. ⌜ r ≡ (if holds then value else 0) ⌝ }
 {
     if holds { value } else { 0 }

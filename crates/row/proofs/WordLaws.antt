@@ -1,7 +1,7 @@
 -- Words of a row: what a formed row says of each reply, and the words read in the incoming buffer. A pad can come before the first word only, so
 -- the k-th word lies k widths behind the first, and the bytes of a word are those of its answer.
-use Prim.Native.Nat.{ℕ, zero, suc, _+_, _*_, _/_, _%_, _≤_, _<_}
-use mathlib.Core.Path.{_≡_, refl, sym, _∙_, subst}
+use Prim.Native.Nat.{ℕ, zero, suc, _+_, _*_, _/_, _%_, _^_, _≤_, _<_}
+use mathlib.Core.Path.{_≡_, refl, sym, ap, _∙_, subst}
 use mathlib.Core.Bool.{Bool, true, false, _&&_}
 use mathlib.Core.List.{List}
 use mathlib.Core.Option.{some}
@@ -10,11 +10,11 @@ use native.Mathlib.Numerals.{add-one}
 use native.Mathlib.Nat.{add-zero}
 use borrow.Author.Count.{below-more}
 use borrow.Author.Tests.{eq-eqb, eqb-true, ltb-true}
-use lib.Bits.{bitAnd}
+use lib.Bits.{bitAnd, bitXor}
 use lib.Dec.{eqb, ltb}
 use lib.ListN.{length, getD, take, drop}
 use lib.Seq.{sets}
-use Rattle.base.specs.Bytes.{byteAt, shortBytes, longBytes}
+use Rattle.base.specs.Bytes.{Bytes, byteAt, shortAt, longAt, shortBytes, longBytes}
 use Rattle.base.proofs.Bools.{and-left, and-right}
 use Rattle.base.proofs.Tests.{on, true-not-false}
 use Rattle.packing.specs.Packing.{padAt, alignedMark, widthOf, markAfter, markAfterWords, stored}
@@ -22,8 +22,10 @@ use Rattle.packing.proofs.MarkFacts.{aligned-multiple, words-closed, stored-len
 use Rattle.reply.specs.Replies.{hasForm, replyOf, isFormed, repliesIn, allFormed}
 use Rattle.reply.specs.Effect.{longwordOf}
 use Rattle.reply.specs.declared.replies.Reply.the-variants.{Answered}
+use Rattle.reply.proofs.LongwordLaws.{longword-bits, narrow-same}
 use Rattle.reply.proofs.ReplyFacts.{piece-byte, piece-first, answer-read, formed-has-form, reply-answer}
-use Rattle.row.specs.model.Words.{FormedFrom, longwordIn, flagsAt, WordsAt, wordsStored, answerBy}
+use Rattle.row.specs.model.Words.{FormedFrom, answerBy, dataIn, longwordIn, flagsAt, WordsAt, Tops, WideTaken, wordsStored}
+use Rattle.row.proofs.Tried.{allBelow, tried}
 use Rattle.row.proofs.RowLaws.{formed-here, formed-start}
 
 -- A formed row -----------------------------------------------------------------------------------------------------------
@@ -67,16 +69,13 @@ module _ (row : List ℕ) (formed : allFormed (repliesIn row) ≡ true) where
     reply-top = sym (byte 7 (omega arith)) ∙ eqb-true _ 0 (form .1)
 
     -- a reply of kind 0 is the answer with its flags, and its longword is what it is stored as
-    abbrev pub dataAt : ℕ
-    dataAt = getD row (j * 8 + 4) 0 + getD row (j * 8 + 5) 0 * 256 + getD row (j * 8 + 6) 0 * 65536
-
-    pub reply-answered : getD row (j * 8) 0 ≡ 0 → replyOf (take 8 (drop (j * 8) row)) ≡ some (Answered (answerBy (flagsAt row j) dataAt))
+    pub reply-answered : getD row (j * 8) 0 ≡ 0 → replyOf (take 8 (drop (j * 8) row)) ≡ some (Answered (answerBy (flagsAt row j) (dataIn row (j * 8))))
     reply-answered e =
         reply-answer (take 8 (drop (j * 8) row)) reply-formed (piece-first row (j * 8) ∙ e) _
         (answer-read (take 8 (drop (j * 8) row)) _ _ _ _ (sym (byte 1 (omega arith))) (sym (byte 4 (omega arith))) (sym (byte 5 (omega arith)))
         (sym (byte 6 (omega arith))))
 
-    pub reply-longword : longwordOf (Answered (answerBy (flagsAt row j) dataAt)) ≡ longwordIn row (j * 8)
+    pub reply-longword : longwordOf (Answered (answerBy (flagsAt row j) (dataIn row (j * 8)))) ≡ longwordIn row (j * 8)
     unfolding longwordIn
     reply-longword = refl
 
@@ -101,32 +100,46 @@ module _ (mask : ℕ) (row : List ℕ) (from : ℕ) where
   pub first-word : WordsAt mask row from 1 → eqb (bitAnd (flagsAt row from) mask) (mask % 4) ≡ true
   first-word words = eq-eqb _ _ (subst (λ (i : ℕ). bitAnd (flagsAt row i) mask ≡ mask % 4) (add-zero from) (words 0 (omega arith)))
 
--- The bytes of an answer's longword ---------------------------------------------------------------------------------------
+-- The longword of an answer ----------------------------------------------------------------------------------------------
 
-pub record Bytes (x y z v : ℕ) : Type 0 where
-  pub first : v % 256 ≡ x
-  pub second : v / 256 % 256 ≡ y
-  pub third : v / 65536 % 256 ≡ z
-  pub fourth : v / 16777216 % 256 ≡ 0
+all-below : allBelow 64 (λ (i : ℕ). ltb (bitXor i 3) 64) ≡ true
+unfolding allBelow
+all-below = refl
 
--- three bytes as a longword, and back
-bytes : (x y z : ℕ) → x < 256 → y < 256 → z < 256 → Bytes x y z ((x + y * 256 + z * 65536) % 16777216)
-bytes x y z hx hy hz =
-    let same : (x + y * 256 + z * 65536) % 16777216 ≡ x + y * 256 + z * 65536 = omega arith in
-    let one : (x + y * 256 + z * 65536) / 256 ≡ y + z * 256 = omega arith in
-    let two : (x + y * 256 + z * 65536) / 65536 ≡ z = omega arith in
-    let three : (x + y * 256 + z * 65536) / 16777216 ≡ 0 = omega arith in
-    record {
-      first = rw same (omega arith);
-      second = rw (same, one) (omega arith);
-      third = rw (same, two) (omega arith);
-      fourth = rw (same, three) refl;
-    }
+-- flags with Q and X negated are a place of the table of top bits
+pub raised-below : (f : ℕ) → f < 64 → bitXor f 3 < 64
+raised-below f h = ltb-true _ 64 (tried 64 (λ (i : ℕ). ltb (bitXor i 3) 64) all-below f h)
 
-pub longword-bytes : (row : List ℕ) (at : ℕ) → getD row (at + 4) 0 < 256 → getD row (at + 5) 0 < 256 → getD row (at + 6) 0 < 256
-    → Bytes (getD row (at + 4) 0) (getD row (at + 5) 0) (getD row (at + 6) 0) (longwordIn row at)
-unfolding longwordIn
-longword-bytes row at low middle high = bytes _ _ _ low middle high
+module _ (row : List ℕ) (byte : Bytes row) (at : ℕ) where
+  -- its two low bytes are the answer's, whatever Q and X
+  pub narrow-bytes : (longwordIn row at % 256 ≡ getD row (at + 4) 0) × (longwordIn row at / 256 % 256 ≡ getD row (at + 5) 0)
+  unfolding longwordIn
+  narrow-bytes =
+      let upper : dataIn row at / 256 ≡ getD row (at + 5) 0 + getD row (at + 6) 0 * 256 = omega (arith, byte (at + 4)) in
+      let same = narrow-same (answerBy (getD row (at + 1) 0) (dataIn row at)) in (
+        ap (λ (l : List ℕ). getD l 0 0) same ∙ omega (arith, byte (at + 4)),
+        ap (λ (l : List ℕ). getD l 1 0) same ∙ rw upper (omega (arith, byte (at + 5))),
+      )
+
+  -- it is the answer's last four bytes, of which byte 7 is zero, and the top bits of its flags
+  data-whole : getD row (at + 7) 0 ≡ 0 → longAt row (at + 4) ≡ dataIn row at
+  unfolding longAt shortAt byteAt
+  data-whole last =
+      let five : at + 4 + 1 ≡ at + 5 = omega arith in
+      let six : at + 4 + 2 ≡ at + 6 = omega arith in
+      let seven : at + 6 + 1 ≡ at + 7 = omega arith in
+      rw (five, six, seven, last) (omega arith)
+
+  pub wide-longword : (tops : List ℕ) → Tops tops → getD row (at + 1) 0 < 64 → getD row (at + 7) 0 ≡ 0
+      → longAt row (at + 4) + getD tops (bitXor (getD row (at + 1) 0) 3) 0 ≡ longwordIn row at
+  unfolding longwordIn
+  wide-longword tops t flags last =
+      let same : dataIn row at % 2 ^ 24 ≡ dataIn row at = omega (arith, byte (at + 4), byte (at + 5), byte (at + 6)) in
+      rw (data-whole last, t .top (getD row (at + 1) 0) flags, same) (omega arith)
+
+  pub longword-below : longwordIn row at < 2 ^ 32
+  unfolding longwordIn
+  longword-below = longword-bits (answerBy (getD row (at + 1) 0) (dataIn row at)) .below
 
 -- Marks ------------------------------------------------------------------------------------------------------------------
 
@@ -183,6 +196,25 @@ module _ (row : List ℕ) (from mark : ℕ) where
       → sets now (mark + k * 4) (longBytes (longwordIn row ((from + k) * 8))) ≡ wordsStored true row from mark (k + 1) before
   wide-more h k before now e =
       rw (add-one k, stored-more true k before, ← e, wide-mark mark h k) (sym (stored-bare _ (mark + k * 4) now (omega arith)))
+
+-- words of 24 bits, one by one: the first k answers are words, and they lie in the buffer
+pub record WideRead (mask : ℕ) (row : List ℕ) (from mark : ℕ) (before : List ℕ) (k : ℕ) (now : List ℕ) : Type 0 where
+  pub words : WordsAt mask row from k
+  pub bytes : now ≡ wordsStored true row from mark k before
+
+pub wide-none : (mask : ℕ) (row : List ℕ) (from mark : ℕ) (before : List ℕ) → WideRead mask row from mark before 0 before
+wide-none mask row from mark before = record { words = words-none mask row from; bytes = stored-none row from mark true before }
+
+module _ {mask : ℕ} {row : List ℕ} {from mark : ℕ} {before : List ℕ} {k : ℕ} {now after : List ℕ} {isWord : Bool}
+    (r : WideRead mask row from mark before k now) (t : WideTaken mask row (from + k) (mark + k * 4) now isWord after) where
+  pub wide-taken : mark % 4 ≡ 0 → isWord ≡ true → WideRead mask row from mark before (k + 1) after
+  wide-taken h e = record {
+    words = words-more mask row from k (r .words) (sym (t .0) ∙ e);
+    bytes = t .1 ∙ rw e (wide-more row from mark h k before now (r .bytes));
+  }
+
+  pub wide-left : isWord ≡ false → WideRead mask row from mark before k after
+  wide-left e = record { words = r .words; bytes = t .1 ∙ rw e (r .bytes) }
 
 first-stored : (row : List ℕ) (from mark : ℕ) (buffer : List ℕ)
     → wordsStored true row from mark 1 buffer ≡ stored true (longwordIn row ((from + 0) * 8)) mark buffer

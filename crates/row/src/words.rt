@@ -4,12 +4,12 @@ ghost use mathlib.Core.Bool.{true, false};
 ghost use Prim.Native.Nat.{_+_, _*_, _%_, _<_, _≤_};
 ghost use lib.Bits.{bitAnd};
 ghost use lib.Dec.{eqb};
-ghost use lib.ListN.{length, getD};
+ghost use lib.ListN.{length};
 ghost use lib.Seq.{sets};
-ghost use Rattle.base.specs.Bytes.{shortBytes, longBytes};
+ghost use Rattle.base.specs.Bytes.{shortBytes};
 ghost use Rattle.packing.specs.Packing.{markAfter, markAfterWords, stored};
 ghost use Rattle.reply.specs.Replies.{repliesIn, allFormed};
-ghost use Rattle.row.specs.model.Words.{longwordIn, flagsAt, WordsAt, wordsStored};
+ghost use Rattle.row.specs.model.Words.{longwordIn, flagsAt, WordsAt, WideTaken, wordsStored, Tops};
 
 // Whether an answer is a word: of the flags in the mask, just Q and X are set.
 pub fn is_word_at(row: &[u8], k: usize, mask: u8) -> bool
@@ -46,19 +46,13 @@ fn put_narrow(incoming: &mut [u8], to: usize, row: &[u8], at: usize)
     incoming[to + 1] = high;
 }
 
-// The word of 24 bits of the answer at a place, with the answer's last byte, which is zero.
-fn put_wide(incoming: &mut [u8], to: usize, row: &[u8], at: usize)
-    requires { ⌜ (to + 4 ≤ length (now incoming)) × ((at + 8 ≤ length (now row)) × (getD (now row) (at + 7) 0 ≡ 0)) ⌝ }
-    ensures { λ r. ⌜ now (incoming .exit) ≡ sets (now (incoming .entry)) to (longBytes (longwordIn (now (row .entry)) at)) ⌝ }
+// The longword that a word of 24 bits is stored as. Byte 7 of an answer is zero. The word is read first: the other order costs singles two moves.
+fn wide_at(row: &[u8], k: usize, tops: &[u32; 64]) -> u32
+    requires { ⌜ (k * 8 + 8 ≤ length (now row)) × ((allFormed (repliesIn (now row)) ≡ true) × Tops (now tops)) ⌝ }
+    ensures { λ v. ⌜ v ≡ longwordIn (now (row .entry)) (k * 8) ⌝ }
 {
-    let low = row[at + 4];
-    let middle = row[at + 5];
-    let high = row[at + 6];
-    let zero = row[at + 7];
-    incoming[to] = low;
-    incoming[to + 1] = middle;
-    incoming[to + 2] = high;
-    incoming[to + 3] = zero;
+    let word = base::whole_at(row, k * 8 + 4);
+    word + tops[base::usize_of(row[k * 8 + 1] ^ 3)]
 }
 
 // Words of 16 bits read: their number, up to `most`, each stored.
@@ -86,7 +80,26 @@ fn read_narrow(
     k
 }
 
-// Words of 24 bits read, from a multiple of 4 on: their number, each stored.
+// Stores an answer's word of 24 bits, if it is a word: whether it is.
+fn take_wide(
+    incoming: &mut [u8],
+    to: usize,
+    row: &[u8],
+    k: usize,
+    mask: u8,
+    tops: &[u32; 64],
+) -> bool
+    requires { ⌜ (to + 4 ≤ length (now incoming)) × ((k * 8 + 8 ≤ length (now row)) × ((allFormed (repliesIn (now row)) ≡ true) × Tops (now tops))) ⌝ }
+    ensures { λ b. ⌜ WideTaken mask (now (row .entry)) k to (now (incoming .entry)) b (now (incoming .exit)) ⌝ }
+{
+    if !is_word_at(row, k, mask) {
+        return false;
+    }
+    base::put_long(incoming, to, wide_at(row, k, tops));
+    true
+}
+
+// Words of 24 bits read, from a multiple of 4 on: their number, each stored. Two at a time, and the last of an odd number.
 fn read_wide(
     incoming: &mut [u8],
     mark: usize,
@@ -94,25 +107,41 @@ fn read_wide(
     from: usize,
     most: usize,
     mask: u8,
+    tops: &[u32; 64],
 ) -> usize
     requires { ⌜ ((from + most) * 8 ≤ length (now row)) × ((mark + most * 4 ≤ length (now incoming)) × ((mark % 4 ≡ 0)
-        × (allFormed (repliesIn (now row)) ≡ true))) ⌝ }
+        × ((allFormed (repliesIn (now row)) ≡ true) × Tops (now tops)))) ⌝ }
     ensures { λ k. ⌜ (k ≤ most) × (WordsAt mask (now (row .entry)) from k
         × ((1 ≤ most → eqb (bitAnd (flagsAt (now (row .entry)) from) mask) (mask % 4) ≡ true → 1 ≤ k)
         × (now (incoming .exit) ≡ wordsStored true (now (row .entry)) from mark k (now (incoming .entry))))) ⌝ }
 {
     let mut k: usize = 0;
-    while k < most {
-        if !is_word_at(row, from + k, mask) {
+    while k + 1 < most {
+        if !take_wide(incoming, mark + k * 4, row, from + k, mask, tops) {
             return k;
         }
-        put_wide(incoming, mark + k * 4, row, (from + k) * 8);
-        k += 1;
+        let next = k + 1;
+        if !take_wide(incoming, mark + next * 4, row, from + next, mask, tops) {
+            return next;
+        }
+        k += 2;
+    }
+    if most <= k {
+        return k;
+    }
+    if take_wide(incoming, mark + k * 4, row, from + k, mask, tops) {
+        return k + 1;
     }
     k
 }
 
-// Words read, from an even mark on: their number, each stored. The first is known to be one.
+// Words read: how many, and the mark behind them.
+pub struct WordsRead {
+    pub words: usize,
+    pub mark: usize,
+}
+
+// Words read, from an even mark on, each stored. The first is known to be one.
 pub fn read_words(
     wide: bool,
     incoming: &mut [u8],
@@ -121,29 +150,46 @@ pub fn read_words(
     from: usize,
     most: usize,
     mask: u8,
-) -> usize
+    tops: &[u32; 64],
+) -> WordsRead
     requires { ⌜ (1 ≤ most) × (((from + most) * 8 ≤ length (now row)) × ((markAfterWords wide most mark ≤ length (now incoming))
-        × ((mark % 2 ≡ 0) × ((allFormed (repliesIn (now row)) ≡ true) × (WordsAt mask (now row) from 1))))) ⌝ }
-    ensures { λ k. ⌜ (1 ≤ k) × ((k ≤ most) × (WordsAt mask (now (row .entry)) from k
-        × (now (incoming .exit) ≡ wordsStored wide (now (row .entry)) from mark k (now (incoming .entry))))) ⌝ }
+        × ((mark % 2 ≡ 0) × ((allFormed (repliesIn (now row)) ≡ true) × (WordsAt mask (now row) from 1 × Tops (now tops)))))) ⌝ }
+    ensures { λ r. ⌜ (1 ≤ r .words) × ((r .words ≤ most) × (WordsAt mask (now (row .entry)) from (r .words)
+        × ((now (incoming .exit) ≡ wordsStored wide (now (row .entry)) from mark (r .words) (now (incoming .entry)))
+        × (r .mark ≡ markAfterWords wide (r .words) mark)))) ⌝ }
 {
     if wide {
         let to = packing::pad(incoming, mark);
-        return read_wide(incoming, to, row, from, most, mask);
+        let k = read_wide(incoming, to, row, from, most, mask, tops);
+        return WordsRead {
+            words: k,
+            mark: to + k * 4,
+        };
     }
-    read_narrow(incoming, mark, row, from, most, mask)
+    let k = read_narrow(incoming, mark, row, from, most, mask);
+    WordsRead {
+        words: k,
+        mark: mark + k * 2,
+    }
 }
 
 // One word read and stored: the mark behind it.
-pub fn read_word(wide: bool, incoming: &mut [u8], mark: usize, row: &[u8], k: usize) -> usize
-    requires { ⌜ (markAfter wide mark ≤ length (now incoming)) × ((k * 8 + 8 ≤ length (now row)) × (allFormed (repliesIn (now row)) ≡ true)) ⌝ }
+pub fn read_word(
+    wide: bool,
+    incoming: &mut [u8],
+    mark: usize,
+    row: &[u8],
+    k: usize,
+    tops: &[u32; 64],
+) -> usize
+    requires { ⌜ (markAfter wide mark ≤ length (now incoming)) × ((k * 8 + 8 ≤ length (now row)) × ((allFormed (repliesIn (now row)) ≡ true)
+        × Tops (now tops))) ⌝ }
     ensures { λ r. ⌜ (r ≡ markAfter wide mark)
         × (now (incoming .exit) ≡ stored wide (longwordIn (now (row .entry)) (k * 8)) mark (now (incoming .entry))) ⌝ }
 {
     if wide {
-        let to = packing::pad(incoming, mark);
-        put_wide(incoming, to, row, k * 8);
-        to + 4
+        packing::store(incoming, mark, true, wide_at(row, k, tops));
+        packing::mark_after(true, mark)
     } else {
         put_narrow(incoming, mark, row, k * 8);
         mark + 2

@@ -3,14 +3,17 @@ use camac::Command;
 use camac::Direction;
 use listfile::Instruction;
 use packing::Marks;
+use reply::Q_BIT;
 use reply::Record;
 use reply::Reply;
+use reply::X_BIT;
 use reply::code_of;
 use reply::counted_record;
 use reply::done_by;
 use reply::ended_at;
 use reply::is_only_nine;
 use reply::moved_record;
+use reply::value_if;
 use reply::wait_on;
 use reply::waits_for;
 use reply::with_marks;
@@ -38,11 +41,12 @@ pub enum Advance {
     At(Record),
 }
 
+// The longword that a read's word is stored as.
 pub fn longword_of(reply: Reply) -> u32
     ensures { λ r. ⌜ r ≡ longwordOf reply ⌝ }
 {
     match reply {
-        Reply::Answered(a) => a.word % WORD_END,
+        Reply::Answered(a) => a.word % WORD_END + value_if(a.x, X_BIT) + value_if(a.q, Q_BIT),
         Reply::Timeout => 0,
         Reply::NotRecognised => 0,
         Reply::NoSync => 0,
@@ -50,15 +54,15 @@ pub fn longword_of(reply: Reply) -> u32
 }
 
 // The word's bytes into the incoming buffer, for a read. The room is there: no mark passes B.
-pub fn store_by(c: Command, word: u32, mark: usize, buffer: &mut [u8])
+pub fn store_by(c: Command, reply: Reply, mark: usize, buffer: &mut [u8])
     requires { ⌜ incomingAfter c mark ≤ length (now buffer) ⌝ }
-    ensures { λ r. ⌜ now (buffer .exit) ≡ movedBytes c word mark (now (buffer .entry)) ⌝ }
+    ensures { λ r. ⌜ now (buffer .exit) ≡ movedBytes c (longwordOf reply) mark (now (buffer .entry)) ⌝ }
 {
     let t = c.transfer;
     let d = camac::direction_of(t);
     match d {
         Direction::Incoming => {
-            packing::store(buffer, mark, c.wide, word);
+            packing::store(buffer, mark, c.wide, longword_of(reply));
         }
         Direction::Outgoing => {}
         Direction::Neither => {}
@@ -69,14 +73,14 @@ pub fn store_by(c: Command, word: u32, mark: usize, buffer: &mut [u8])
 fn go_on(
     c: Command,
     done: bool,
-    word: u32,
+    reply: Reply,
     before: Record,
     after: Record,
     incoming: &mut [u8],
 ) -> Taken
     requires { ⌜ Ready c before (now incoming) × (after .marks ≡ before .marks) ⌝ }
     ensures record { λ r. ⌜ r ≡ onRun c done before after ⌝ }
-    ensures bytes { λ r. ⌜ now (incoming .exit) ≡ bytesIf done c word (before .marks .incoming) (now (incoming .entry)) ⌝ }
+    ensures bytes { λ r. ⌜ now (incoming .exit) ≡ bytesIf done c (longwordOf reply) (before .marks .incoming) (now (incoming .entry)) ⌝ }
 {
     let t = c.transfer;
     let q = camac::qmode_of(t);
@@ -84,7 +88,7 @@ fn go_on(
     let marks = before.marks;
     let left = before.left;
     if done {
-        store_by(c, word, marks.incoming, incoming);
+        store_by(c, reply, marks.incoming, incoming);
         let moved = moved_record(c, after);
         if left == 1 {
             return Taken::Through(moved);
@@ -112,7 +116,7 @@ fn moves_at_end(limit: usize, c: Command, reply: Reply, run: Record, code: u32) 
 fn end_run(
     c: Command,
     moves: bool,
-    word: u32,
+    reply: Reply,
     code: u32,
     before: Record,
     after: Record,
@@ -120,12 +124,12 @@ fn end_run(
 ) -> Taken
     requires { ⌜ (code ≤ 13) × (Ready c before (now incoming) × (after .marks ≡ before .marks)) ⌝ }
     ensures record { λ r. ⌜ r ≡ Taken.Ended (endedAt (before .spot) code (movedIf moves c after)) ⌝ }
-    ensures bytes { λ r. ⌜ now (incoming .exit) ≡ bytesIf moves c word (before .marks .incoming) (now (incoming .entry)) ⌝ }
+    ensures bytes { λ r. ⌜ now (incoming .exit) ≡ bytesIf moves c (longwordOf reply) (before .marks .incoming) (now (incoming .entry)) ⌝ }
 {
     let spot = before.spot;
     let marks = before.marks;
     if moves {
-        store_by(c, word, marks.incoming, incoming);
+        store_by(c, reply, marks.incoming, incoming);
         return Taken::Ended(ended_at(spot, code, moved_record(c, after)));
     }
     Taken::Ended(ended_at(spot, code, after))
@@ -139,14 +143,13 @@ pub fn take_here(limit: usize, c: Command, reply: Reply, run: Record, incoming: 
 {
     let t = c.transfer;
     let code = code_of(limit, c, run, reply);
-    let word = longword_of(reply);
     let after = counted_record(limit, c, reply, run);
     if code == 0 {
         let done = done_by(camac::qmode_of(t), reply);
-        return go_on(c, done, word, run, after, incoming);
+        return go_on(c, done, reply, run, after, incoming);
     }
     let moves = moves_at_end(limit, c, reply, run, code);
-    end_run(c, moves, word, code, run, after, incoming)
+    end_run(c, moves, reply, code, run, after, incoming)
 }
 
 // One visit of the walk. A list has at most 4,096 instructions, and no mark passes B.

@@ -16,7 +16,7 @@ ghost use Rattle.walk.specs.Walk.{movedBy};
 ghost use lib.ListN.{length};
 ghost use Rattle.walk.specs.model.Sums.{planBy};
 ghost use Rattle.whole_run.specs.model.Row.{Grounds, Stage, Moves};
-ghost use Rattle.row.specs.model.Words.{FormedFrom, Answered};
+ghost use Rattle.row.specs.model.Words.{FormedFrom, Answered, Tops};
 ghost use Rattle.answers.specs.model.Visit.{placeOf};
 ghost use Rattle.whole_run.specs.model.Along.{Ahead, Tabled, Reaches, arrived, between, stayOf, stopRecord};
 
@@ -161,9 +161,10 @@ pub(crate) fn run_answers(
     incoming: &mut [u8],
     row: &[u8],
     answers: usize,
+    tops: &[u32; 64],
 ) -> Stop
     requires { ⌜ Grounds (now list) (now table) sizes (length (now incoming)) × ((FormedFrom (now row) (from * 8) × (Stage (planBy (now list) sizes) r × (r .ended ≡ false)))
-        × Answered (now row) answers) ⌝ }
+        × Answered (now row) answers) × Tops (now tops) ⌝ }
     ensures { λ x. ⌜ Moves (planBy (now (list .entry)) sizes) (now (row .entry)) r (from * 8) (now (incoming .entry))
         (stopRecord r (now (row .entry)) from x) (x .stay .taken * 8) (now (incoming .exit)) × ((from ≤ x .stay .taken) × (x .stay .position < 4096)) ⌝ }
 {
@@ -172,7 +173,7 @@ pub(crate) fn run_answers(
     let mut longword = listfile::first_at(list, base::usize_of_short(table[begin]));
     let mut here = stay_of(r, from);
     loop {
-        here = visit(longword, sizes.limit, here, incoming, row, answers);
+        here = visit(longword, sizes.limit, here, incoming, row, answers, tops);
         if here.left != 0 {
             return Stop {
                 spot: spot,

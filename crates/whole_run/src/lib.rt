@@ -16,6 +16,7 @@ use reply::Record;
 use row::RowRead;
 use row::gathered;
 use row::read_row;
+use row::top_bits;
 pub use several::steps;
 use walk::Preparation;
 ghost use mathlib.Core.Path.{_≡_};
@@ -106,6 +107,7 @@ fn run_replies(
         ≡ stoppedAt (v .taken * 8) (stateOf (v .run) (now (incoming .exit)) outgoing)) ⌝ }
 {
     let count = row.len() / 8;
+    let tops = top_bits();
     let mut here = first;
     let mut k: usize = 0;
     while k < count {
@@ -115,7 +117,7 @@ fn run_replies(
                 taken: k,
             };
         }
-        let stop = run_answers(list, table, sizes, here, k, incoming, row, answers);
+        let stop = run_answers(list, table, sizes, here, k, incoming, row, answers, &tops);
         let stay = stop.stay;
         let r = record_of(here, k, stop, row);
         if r.ended || stay.taken == count {

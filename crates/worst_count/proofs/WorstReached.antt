@@ -22,7 +22,7 @@ use Rattle.walk.specs.declared.Admission.the-variants.{Admitted}
 use Rattle.reply.specs.Replies.{answerIn, hasForm, replyOf}
 use Rattle.qmodes.specs.Modes.{done, scanLeaves, spent, noX, noQInStop}
 use Rattle.reply.specs.Causes.{causesOf}
-use Rattle.reply.specs.Effect.{State, byCauses, takeReply}
+use Rattle.reply.specs.Effect.{State, byCauses, takeReply, longwordOf}
 use Rattle.calls.specs.Calls.{stepOf}
 use Rattle.qmodes.specs.declared.modes.Answer.{Answer}
 use Rattle.qmodes.proofs.SlowestFalls.{slowestAnswer, Slowest, slowest-at}
@@ -81,7 +81,7 @@ module _ (list incoming outgoing : List ℕ) (p : Plan) (prepared : prepare list
       slowest-at (p .limit) (positionOf (l .command .transfer)) (s .run .position) (s .run .left) (s .run .tries) (worstOver (p .limit) (l .post))
       (l .some) q (l .tried) (l .position) (l .room) in
       rw (slowest-clear (p .limit) (l .command) (s .run) (slowestAt (p .limit) q (s .run)) (x .unspent) (x .stays) (x .answers-q))
-      (goes-on true p incoming outgoing (sound .limit-least) s t l (r .kept) (r .count) (Answered a) 0
+      (goes-on true p incoming outgoing (sound .limit-least) s t l (r .kept) (r .count) (Answered a) (longwordOf (Answered a))
       (flags-only (p .limit) (l .command) (s .run) a (x .unspent) (x .stays))
       (live-halts true p (s .run) l (sound .halts)) (live-well true p (s .run) l (sound .well)) (done q a) (x .progress))
 

@@ -3,7 +3,7 @@
 //! A [`List`] is written, [`admit`] says whether it is well formed and what it can need at
 //! most, and a [`Run`] asks for one CAMAC operation after another and takes the replies.
 //! [`run()`] takes a row of replies that were collected before. A call that is refused
-//! changes nothing and says why ([`Refusal`]).
+//! changes nothing and says why ([`Refusal`]). A [`Word`] takes a stored longword apart.
 //!
 //! ```
 //! use camlist::{admit, Camac, List, Reply, Run};
@@ -27,6 +27,7 @@ mod refusal;
 mod reply;
 mod run;
 mod status;
+mod word;
 
 pub use list::{Camac, List};
 pub use record::{Buffer, Note, Record};
@@ -34,3 +35,4 @@ pub use refusal::{Reason, Refusal};
 pub use reply::{row, Reply};
 pub use run::{admit, run, Counts, Operation, Ran, Run};
 pub use status::{Code, Status};
+pub use word::Word;

@@ -84,7 +84,8 @@ impl Camac {
         self.with(Q_MODE, 3 << 3)
     }
 
-    /// AD = 1: parity errors, damaged commands and X = 0 end nothing.
+    /// AD = 1: parity errors, damaged commands and X = 0 end nothing. Which 24-bit words came
+    /// with X = 0 is stored with them ([`Word::x`](crate::Word::x)).
     pub fn abort_disable(self) -> Camac {
         self.with(ABORT_DISABLE, ABORT_DISABLE)
     }

@@ -227,7 +227,7 @@ impl<'a> Run<'a> {
         self.record.status()
     }
 
-    /// What was stored so far.
+    /// What was stored so far. A 24-bit word that was read is a [`Word`](crate::Word).
     pub fn stored(&self) -> &[u8] {
         &self.incoming[..self.record.incoming_mark() as usize]
     }

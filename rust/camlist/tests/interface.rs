@@ -3,7 +3,7 @@
 
 use camlist::ffi::{self, raw, ADMIT_NUMBERS, CALL_NUMBERS, RUN_NUMBERS};
 use camlist::ffi::{NAME_BYTES, RECORD_NUMBERS, STEPS_NUMBERS};
-use camlist::{Camac, Code, Reason, Record, Reply, Status};
+use camlist::{Camac, Code, Reason, Record, Reply, Status, Word};
 use reference::cases::by_hand::{double, list, ok, one, M15, M17};
 use reference::host::{admission_numbers, run_numbers, start_numbers, step_numbers, steps_numbers};
 use reference::names::CODE_NAMES;
@@ -382,6 +382,13 @@ fn builders_of_the_header() {
         let changed = answer ^ reply.bytes()[1];
         assert_eq!(u64::from(changed), constants[name], "{name}");
     }
+}
+
+/// The parts of a stored longword are the header's bits.
+#[test]
+fn longwords_of_the_header() {
+    let bits = [("Q", Word::Q), ("X", Word::X), ("DATA", Word::DATA)];
+    assert_constants("WORD_", &bits.map(|(name, bits)| (name, u64::from(bits))));
 }
 
 /// The proved names are the manual's, and blanks above 15.

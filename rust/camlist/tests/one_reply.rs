@@ -1,5 +1,6 @@
 //! Every reply at every place of a run through each small list of a family: all 64 bytes 1 of
-//! an answer and the three other kinds, from every record that fits, by one step.
+//! an answer and the three other kinds, by one step from every record that fits, with no flags
+//! gathered before it and with all.
 
 mod common;
 #[path = "common/family.rs"]
@@ -7,13 +8,12 @@ mod family;
 
 use common::{compare_step, After, Given};
 use family::family;
-use reference::cases::by_hand::{answer, kind, ERR, X};
+use reference::cases::by_hand::{answer, kind, ERR, Q, X};
 use reference::cases::coverage::Coverage;
 use reference::cases::records::all_fitting;
 use reference::list::Instruction;
-use reference::reply;
 use reference::walk::{admission, Admitted};
-use reference::Record;
+use reference::{reply, status, Record};
 
 /// Every well-formed reply, answers with one data.
 fn replies() -> Vec<[u8; 8]> {
@@ -25,6 +25,7 @@ fn replies() -> Vec<[u8; 8]> {
 struct Met {
     steps: u64,
     damaged: u64,
+    stored: u64,
     coverage: Coverage,
 }
 
@@ -38,6 +39,10 @@ impl Met {
         if is_damaged(admitted, before, reply) {
             assert!(ends_moving_nothing(given, &after), "{what}");
             self.damaged += 1;
+        }
+        if let Some(bytes) = stored(given, &after) {
+            assert!(is_stored_so(bytes, reply), "{bytes:02X?}, {what}");
+            self.stored += 1;
         }
         self.steps += 1;
         let reply = reply::read(reply).expect("well formed");
@@ -69,14 +74,35 @@ fn ends_moving_nothing<const NUMBERS: usize>(given: &Given, after: &After<NUMBER
         && after.incoming == given.incoming
 }
 
+/// The word that a step stored: that of the note, if it is another than before and of the
+/// incoming buffer.
+fn stored<'a, const NUMBERS: usize>(given: &Given, after: &'a After<NUMBERS>) -> Option<&'a [u8]> {
+    let (old, new) = (&given.record[10..], &after.record[10..]);
+    let &[buffer, offset, length] = new else {
+        panic!("a note has three numbers");
+    };
+    let bytes = || &after.incoming[offset as usize..][..length as usize];
+    (new != old && buffer == 0).then(bytes)
+}
+
+/// A 24-bit word with Q in bit 31 and X in bit 30 of its longword, or two bytes of the data.
+fn is_stored_so(bytes: &[u8], reply: &[u8; 8]) -> bool {
+    let [_, flags, _, _, low, middle, high, _] = *reply;
+    let q = if flags & Q != 0 { 0x80 } else { 0 };
+    let x = if flags & X != 0 { 0x40 } else { 0 };
+    bytes == [low, middle, high, q | x] || bytes == [low, middle]
+}
+
 fn compare_list(list: &[u8], met: &mut Met) {
     let Ok(admitted) = admission(list, u64::MAX, u64::MAX) else {
         return;
     };
     let incoming = vec![0xEE; admitted.counts.b as usize];
-    let outgoing: Vec<u8> = (1..=admitted.counts.o as u8).collect();
+    // Top bytes have the bits of Q and X, which an outgoing word doesn't.
+    let outgoing: Vec<u8> = (0xC1..=0xC0 + admitted.counts.o as u8).collect();
     let replies = replies();
-    for before in all_fitting(&admitted) {
+    let with_flags = |record| [0, status::FLAGS].map(|status| Record { status, ..record });
+    for before in all_fitting(&admitted).into_iter().flat_map(with_flags) {
         let given = Given {
             list,
             record: before.numbers(),
@@ -94,15 +120,21 @@ fn every_reply_at_every_place() {
     let mut met = Met {
         steps: 0,
         damaged: 0,
+        stored: 0,
         coverage: Coverage::of_replies(),
     };
     for small in family() {
         compare_list(&small.list, &mut met);
     }
-    let Met { steps, damaged, .. } = met;
-    println!("{steps} steps, {damaged} of them with a damaged command");
-    // Of all 67 replies each.
-    assert_eq!(steps, 67 * 14_384);
+    let Met {
+        steps,
+        damaged,
+        stored,
+        ..
+    } = met;
+    println!("{steps} steps, {damaged} of them with a damaged command, {stored} words stored");
+    // Of all 67 replies each, from 14,384 places.
+    assert_eq!(steps, 2 * 67 * 14_384);
     let table = met.coverage.table();
     println!("{table}");
     assert_eq!(met.coverage.missing(), [], "never met:\n{table}");

@@ -10,7 +10,7 @@ use crate::reply::{self, Reply, Response};
 use crate::scan::Position;
 use crate::status;
 use crate::walk::{admission, Admitted};
-use crate::words::{Camac, Direction, QMode, Transfer};
+use crate::words::{Camac, Direction, QMode, Transfer, WordSize};
 
 /// "the operation wanted next: crate, N, A, F and data", with "a sixth number, 1 if
 /// enhanced, else 0" (E1); after the end or a refusal all six are zero.
@@ -299,12 +299,12 @@ fn take_answer(
         // "A reply that ends the run so moves no word, except that a word done at the
         // scan's last position, with 9 as the only cause, is moved first."
         if done && causes.only_scan_left() {
-            record = move_word(record, &camac, incoming, response.data);
+            record = move_word(record, &camac, incoming, response);
         }
         return end(record, code);
     }
     if done {
-        record = move_word(record, &camac, incoming, response.data);
+        record = move_word(record, &camac, incoming, response);
         record.words_left -= 1;
         record.tries = 0;
     } else if camac.q_mode == QMode::Repeat {
@@ -425,11 +425,17 @@ impl Causes {
 /// Moves a done word: "Read words and literals go to the incoming buffer, write words
 /// come from the outgoing one"; "Inline and control move neither mark" and leave the note
 /// alone.
-fn move_word(mut record: Record, camac: &Camac, incoming: &mut [u8], data: u32) -> Record {
+fn move_word(
+    mut record: Record,
+    camac: &Camac,
+    incoming: &mut [u8],
+    response: &Response,
+) -> Record {
     let length = camac.size.bytes();
     match (camac.transfer, camac.direction()) {
         (Transfer::Inline { .. }, _) | (_, Direction::Control) => {}
         (_, Direction::Read) => {
+            let data = stored(camac.size, response);
             let offset = packing::store(incoming, record.incoming_mark, length, data);
             record.incoming_mark = offset + length;
             record.note = Note {
@@ -449,6 +455,18 @@ fn move_word(mut record: Record, camac: &Camac, incoming: &mut [u8], data: u32) 
         }
     }
     record
+}
+
+/// What a read stores of an answer: "When a read's 24-bit word is stored, bit 31 becomes Q
+/// and bit 30 X; bits 29–24 stay zero", and "16-bit words don't change" (E9).
+fn stored(size: WordSize, response: &Response) -> u32 {
+    match size {
+        WordSize::Bits16 => response.data,
+        WordSize::Bits24 => {
+            let (q, x) = (u32::from(response.q), u32::from(response.x));
+            q << 31 | x << 30 | response.data
+        }
+    }
 }
 
 /// The operation wanted next: its data "is the outgoing word that a write takes from its

@@ -2,7 +2,7 @@
 
 use std::collections::HashMap;
 
-use reference::cases::by_hand::{ERR, X};
+use reference::cases::by_hand::{ERR, Q, X};
 use reference::cases::lists::{self, Draft, DraftField, BLOCK, ENHANCED, Q_MODE};
 use reference::cases::records::{fitting, step_case, StepCase};
 use reference::cases::rng::Rng;
@@ -290,6 +290,35 @@ fn is_damaged(case: &StepCase) -> bool {
         return false;
     };
     case.reply[1] & (X | ERR) == X | ERR && !camac.abort_disable
+}
+
+/// E9: a 24-bit word is stored with Q in bit 31 and X in bit 30 of its own answer, bits 29 to 24
+/// zero; a 16-bit word is the low half of its data, whatever Q and X.
+#[test]
+fn a_stored_word_has_q_and_x_of_its_answer() {
+    let (mut wide, mut narrow) = ([0; 4], [0; 4]);
+    for number in 0..CASES {
+        let case = step_case(11, number);
+        let (answer, incoming) = case.stepped();
+        let note = answer.record.note;
+        if answer.refusal.is_some() || note == case.record.note || note.buffer != 0 {
+            continue;
+        }
+        let [_, flags, _, _, low, middle, high, _] = case.reply[..] else {
+            panic!("a reply of 8 bytes");
+        };
+        let stored = &incoming[note.offset as usize..][..note.length as usize];
+        let qx = usize::from(flags & (Q | X));
+        if note.length == 4 {
+            let top = [0x00, 0x80, 0x40, 0xC0][qx];
+            assert_eq!(stored, [low, middle, high, top], "case {number}");
+            wide[qx] += 1;
+        } else {
+            assert_eq!(stored, [low, middle], "case {number}");
+            narrow[qx] += 1;
+        }
+    }
+    assert!(wide.iter().chain(&narrow).all(|&met| met > 0));
 }
 
 /// All the bytes 1 that can change the course of a run, and a timeout.

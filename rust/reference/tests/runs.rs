@@ -52,6 +52,22 @@ fn camrun_of_an_enhanced_list() {
     assert_eq!(lines(&sequencer, &answers(&[Q]), &[]), printed);
 }
 
+/// E9: Q and X of the words stored are nothing that camrun prints.
+#[test]
+fn camrun_of_24_bit_words_and_a_literal() {
+    let printed = [
+        "admitted 4 20 0",
+        "op 1 1 1 0 0",
+        "op 2 1 1 0 0",
+        "op 3 1 1 0 0",
+        "op 4 1 1 0 0",
+        "end 0 00030080 4 20",
+    ];
+    let block = double(0x0200_0129, 0xFFFF_FFF8) + "21 04 00 DD CC BB AA " + HALT;
+    let row = answers(&[Q | X, Q, X, 0]);
+    assert_eq!(lines(&list_with(1, &block), &row, &[]), printed);
+}
+
 /// Each file is cut before anything looks at it.
 #[test]
 fn camrun_cuts_its_files() {
@@ -136,7 +152,7 @@ fn pads_wait_for_their_word() {
         length: 4,
     };
     assert_eq!(next.record.note, note);
-    assert_eq!(incoming[6..12], [0, 0, 4, 0, 0, 0]);
+    assert_eq!(incoming[6..12], [0, 0, 4, 0, 0, 0xC0]);
 }
 
 /// A record of a run in the middle of M58's block, to be damaged.

@@ -9,7 +9,7 @@ use borrow.Author.Needs.{needs}
 use Rattle.row.specs.model.Words.{flagsAt}
 use Rattle.row.proofs.WordLaws.{first-word}
 use Rattle.answers.specs.model.Visit.{Words}
-use Rattle.answers.proofs.VisitRoom.{ahead-most, read-in, bytes-by, some-words, words-with, marks-to}
+use Rattle.answers.proofs.VisitRoom.{ahead-most, read-in, bytes-by, some-words, words-with, read-mark, marks-to}
 use Rattle.answers.proofs.take_words.Statement.{statement}
 use Rattle.answers.proofs.take_words.Tie as tie
 
@@ -20,7 +20,7 @@ Counted s k = Words (s .args .rules) (s .args .row .now) (s .args .answers) (s .
 first : (s : tie.Start) → eqb (bitAnd (flagsAt (s .args .row .now) (s .args .here .taken)) (s .args .rules .word)) (s .args .rules .word % 4) ≡ true
 first s = first-word (s .args .rules .word) (s .args .row .now) (s .args .here .taken) (s .pre .1 .are)
 
-read : (c : tie.After-read-words) → Counted (c .before .before .before .before .before .before .before) (c .read-words .result)
+read : (c : tie.After-read-words) → Counted (c .before .before .before .before .before .before .before) (c .read-words .result .words)
 read c =
     let p = c .before .before .before .before .before .before .before .pre in
     let k = c .read-words .ensures in some-words _ _ _ _ _ _ (p .2 .1 .0) (p .2 .1 .1) (k .0) (k .1 .0) (k .1 .1 .0)
@@ -45,14 +45,17 @@ read-words-requires c κs =
       p .2 .0,
       (
         omega (arith, p .2 .1 .1, p .0 .within),
-        (read-in _ _ _ _ _ (p .0) _ (omega (arith, p .2 .1 .0, ahead-most (start .args .rules .q) (start .args .here .position) (start .args .here .left))) (c .before .enum-told .given .1), (p .0 .even .incoming, (p .0 .row-formed, p .1 .are))),
+        (read-in _ _ _ _ _ (p .0) _ (omega (arith, p .2 .1 .0, ahead-most (start .args .rules .q) (start .args .here .position) (start .args .here .left))) (c .before .enum-told .given .1), (p .0 .even .incoming, (p .0 .row-formed, (p .1 .are, p .3)))),
       ),
     )
 
-after-words-requires : tie.Need-after-words-requires
-after-words-requires c κs =
-    let p = c .before .before .before .before .before .before .before .before .before .pre in
-    words-with _ _ _ _ _ (p .0) _ (read (c .before .before)) (omega (arith, p .0 .taken)) (marks-to _ _ _ _ _ (p .0))
+behind-words-requires : tie.Need-behind-words-requires
+behind-words-requires c κs =
+    let at-read = c .before .before in
+    let start = at-read .before .before .before .before .before .before .before in
+    let p = start .pre in
+    words-with _ _ _ _ _ (p .0) _ (read at-read) (omega (arith, p .0 .taken, start .fits))
+    (read-mark _ _ _ _ (at-read .read-words .result .words) (at-read .before .before .enum-told .given .1) (at-read .read-words .ensures .1 .1 .1 .1))
 
 enum-told-2 : tie.Need-enum-told-2
 enum-told-2 c = search needs
@@ -60,8 +63,8 @@ enum-told-2 c = search needs
 pass-words-requires : tie.Need-pass-words-requires
 pass-words-requires c κs = search needs
 
-after-words-requires-2 : tie.Need-after-words-requires-2
-after-words-requires-2 c κs =
+after-words-requires : tie.Need-after-words-requires
+after-words-requires c κs =
     let p = c .before .before .before .before .before .before .pre in words-with _ _ _ _ _ (p .0) _ (written c) (omega (arith, p .0 .taken)) (marks-to _ _ _ _ _ (p .0))
 
 enum-told-3 : tie.Need-enum-told-3
@@ -70,8 +73,8 @@ enum-told-3 c = search needs
 pass-words-requires-2 : tie.Need-pass-words-requires-2
 pass-words-requires-2 c κs = search needs
 
-after-words-requires-3 : tie.Need-after-words-requires-3
-after-words-requires-3 c κs =
+after-words-requires-2 : tie.Need-after-words-requires-2
+after-words-requires-2 c κs =
     let p = c .before .before .before .before .before .before .pre in words-with _ _ _ _ _ (p .0) _ (passed c) (omega (arith, p .0 .taken)) (marks-to _ _ _ _ _ (p .0))
 
 same-length : tie.Need-same-length
@@ -81,17 +84,17 @@ returns : tie.Need-returns
 returns c =
     let at-read = c .before .before .before in
     record {
-      count = at-read .read-words .result;
+      count = at-read .read-words .result .words;
       words = read at-read;
-      behind = c .after-words .ensures;
-      bytes = bytes-by _ _ _ _ _ _ _ (at-read .before .before .enum-told .given .1) (at-read .read-words .ensures .1 .1 .1);
+      behind = c .behind-words .ensures;
+      bytes = bytes-by _ _ _ _ _ _ _ (at-read .before .before .enum-told .given .1) (at-read .read-words .ensures .1 .1 .1 .0);
     }
 
 returns-2 : tie.Need-returns-2
 returns-2 c = record {
   count = c .before .pass-words .result;
   words = written (c .before);
-  behind = c .after-words2 .ensures;
+  behind = c .after-words .ensures;
   bytes = bytes-by _ _ _ _ _ _ _ (c .before .before .enum-told2 .given .1) refl;
 }
 
@@ -99,7 +102,7 @@ returns-3 : tie.Need-returns-3
 returns-3 c = record {
   count = c .before .pass-words2 .result;
   words = passed (c .before);
-  behind = c .after-words3 .ensures;
+  behind = c .after-words2 .ensures;
   bytes = bytes-by _ _ _ _ _ _ _ (c .before .before .enum-told3 .given .1) refl;
 }
 
@@ -109,13 +112,13 @@ take-words-spec =
     (tie.spec
     enum-told
     read-words-requires
-    after-words-requires
+    behind-words-requires
     enum-told-2
     pass-words-requires
-    after-words-requires-2
+    after-words-requires
     enum-told-3
     pass-words-requires-2
-    after-words-requires-3
+    after-words-requires-2
     same-length
     returns
     returns-2

@@ -29,7 +29,8 @@ rules-in-requires c κs = search needs
 last-word-requires : tie.Need-last-word-requires
 last-word-requires c κs =
     let e = c .before .rules-in .ensures in
-    (roomy (c .before .before .before .before .before .before) _ e, last (c .before .before) _ e)
+    let s = c .before .before .before .before .before .before in
+    (roomy s _ e, last (c .before .before) _ e, s .pre .2)
 
 behind-words-requires : tie.Need-behind-words-requires
 behind-words-requires c κs =
@@ -54,7 +55,7 @@ rules-in-requires-2 c κs = search needs
 
 visit-on-requires : tie.Need-visit-on-requires
 visit-on-requires c κs =
-    let s = c .before .before .before .before .before .before in (s .pre .0, roomy s _ (c .before .rules-in2 .ensures))
+    let s = c .before .before .before .before .before .before in (s .pre .0, roomy s _ (c .before .rules-in2 .ensures), s .pre .2)
 
 same-length-2 : tie.Need-same-length-2
 same-length-2 c = search needs

@@ -12,11 +12,11 @@ use Rattle.answers.proofs.visit_on.Statement.{statement}
 use Rattle.answers.proofs.visit_on.Tie as tie
 
 abbrev Inv-loop : tie.InvT-loop
-Inv-loop rules limit incoming₀ row answers here₀ incoming here =
+Inv-loop rules limit incoming₀ row answers tops here₀ incoming here =
     Passed rules limit row answers here₀ incoming₀ here incoming × (Roomy rules row answers here incoming × (length incoming ≡ length incoming₀))
 
 abbrev μ-loop : tie.MeasureT-loop
-μ-loop rules limit incoming₀ row answers here₀ incoming here = answers - here .taken
+μ-loop rules limit incoming₀ row answers tops here₀ incoming here = answers - here .taken
 
 loop-holds : tie.Need-loop-holds Inv-loop μ-loop
 loop-holds c = (none, (c .before .before .pre .1, refl))
@@ -58,6 +58,7 @@ take-words-requires c κs =
       one-word _ _ _ _ (omega (arith, ahead, least .0, c .before .if4 .left)) (omega (arith, at-if2 .if2 .left)) _
           (at-is-word-at .is-word-at .ensures) (at-words-ahead .before .if3 .taken),
       (omega (arith, c .before .if4 .left), (omega (arith, ahead, least .0), omega (arith, least .1 .0, at-if2 .if2 .left))),
+      c .before .before .before .before .before .before .before .before .before .before .before .before .before .before .pre .2,
     )
 
 loop-less : tie.Need-loop-less Inv-loop μ-loop

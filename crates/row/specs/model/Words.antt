@@ -1,18 +1,21 @@
 -- What code reads of a row of replies and stores of it: the answers before the first reply of another kind, the words among them, their bytes and
 -- their status bits. Nothing here is a rule of document 01.
-use Prim.Native.Nat.{ℕ, zero, suc, _+_, _*_, _/_, _%_, _≤_, _<_}
+use Prim.Native.Nat.{ℕ, zero, suc, _+_, _*_, _/_, _%_, _^_, _≤_, _<_}
 use mathlib.Core.Path.{_≡_}
 use mathlib.Core.Bool.{Bool, true, false, _||_, not}
 use mathlib.Core.List.{List, [], _∷_}
 use lib.Bits.{bitAnd, bitOr, bitXor}
 use lib.Dec.{eqb}
 use lib.ListN.{length, getD, take, drop}
-use Rattle.base.specs.Bytes.{quadAt}
+use lib.Seq.{sets as written}
+use Rattle.base.specs.Bytes.{longBytes, quadAt}
 use Rattle.base.specs.Checks.{if_then_else_}
 use Rattle.qmodes.specs.declared.modes.Answer.{Answer}
 use Rattle.packing.specs.Packing.{markAfterWords, stored}
 use Rattle.reply.specs.Replies.{isFormed, repliesIn, allFormed}
 use Rattle.reply.specs.Status.{_sets_, bitsOf}
+use Rattle.reply.specs.Effect.{longwordOf}
+use Rattle.reply.specs.declared.replies.Reply.the-variants.{Answered as AnsweredReply}
 use Rattle.row.specs.declared.reading.RowRead.{RowRead}
 use Rattle.row.specs.declared.reading.RowRead.the-variants.{NotFormed, Answers}
 
@@ -57,26 +60,6 @@ BitsOver row from to bits = (mask : ℕ) → bitAnd bits mask ≡ 0 → (j : ℕ
 
 -- Words ------------------------------------------------------------------------------------------------------------------
 
--- the longword that the answer at a place of the row is stored as
-unfoldable pub longwordIn : List ℕ → ℕ → ℕ
-longwordIn row at = (getD row (at + 4) 0 + getD row (at + 5) 0 * 256 + getD row (at + 6) 0 * 65536) % 16777216
-
--- the flags of reply number j
-abbrev pub flagsAt : List ℕ → ℕ → ℕ
-flagsAt row j = getD row (j * 8 + 1) 0
-
--- the first k answers from number `from` on are words by a mask: of the flags in it, just Q and X are set
-abbrev pub WordsAt : ℕ → List ℕ → ℕ → ℕ → Type 0
-WordsAt mask row from k = (j : ℕ) → j < k → bitAnd (flagsAt row (from + j)) mask ≡ mask % 4
-
--- the incoming buffer after k words read, the first of them at `mark`
-unfoldable pub wordsStored : Bool → List ℕ → ℕ → ℕ → ℕ → List ℕ → List ℕ
-wordsStored wide row from mark zero buffer = buffer
-wordsStored wide row from mark (suc k) buffer =
-    stored wide (longwordIn row ((from + k) * 8)) (markAfterWords wide k mark) (wordsStored wide row from mark k buffer)
-
--- Flags ------------------------------------------------------------------------------------------------------------------
-
 -- the answer with these flags and this data
 abbrev pub answerBy : ℕ → ℕ → Answer
 answerBy f word = record {
@@ -88,6 +71,39 @@ answerBy f word = record {
   lpe = eqb (f / 32 % 2) 1;
   word = word;
 }
+
+-- the data of the answer at a place of the row, and the longword that it is stored as
+abbrev pub dataIn : List ℕ → ℕ → ℕ
+dataIn row at = getD row (at + 4) 0 + getD row (at + 5) 0 * 256 + getD row (at + 6) 0 * 65536
+
+unfoldable pub longwordIn : List ℕ → ℕ → ℕ
+longwordIn row at = longwordOf (AnsweredReply (answerBy (getD row (at + 1) 0) (dataIn row at)))
+
+-- the flags of reply number j
+abbrev pub flagsAt : List ℕ → ℕ → ℕ
+flagsAt row j = getD row (j * 8 + 1) 0
+
+-- the first k answers from number `from` on are words by a mask: of the flags in it, just Q and X are set
+abbrev pub WordsAt : ℕ → List ℕ → ℕ → ℕ → Type 0
+WordsAt mask row from k = (j : ℕ) → j < k → bitAnd (flagsAt row (from + j)) mask ≡ mask % 4
+
+-- a table of the top bits of longwords, by flags in which Q and X are negated
+pub record Tops (tops : List ℕ) : Type 0 where
+  pub top : (f : ℕ) → f < 64 → getD tops (bitXor f 3) 0 ≡ (if eqb (f / 2 % 2) 1 then 2 ^ 30 else 0) + (if eqb (f % 2) 1 then 2 ^ 31 else 0)
+
+-- whether an answer is a word, and the buffer with it where it is one
+abbrev pub WideTaken : ℕ → List ℕ → ℕ → ℕ → List ℕ → Bool → List ℕ → Type 0
+WideTaken mask row k to before isWord after =
+    (isWord ≡ eqb (bitAnd (flagsAt row k) mask) (mask % 4))
+    × (after ≡ (if isWord then written before to (longBytes (longwordIn row (k * 8))) else before))
+
+-- the incoming buffer after k words read, the first of them at `mark`
+unfoldable pub wordsStored : Bool → List ℕ → ℕ → ℕ → ℕ → List ℕ → List ℕ
+wordsStored wide row from mark zero buffer = buffer
+wordsStored wide row from mark (suc k) buffer =
+    stored wide (longwordIn row ((from + k) * 8)) (markAfterWords wide k mark) (wordsStored wide row from mark k buffer)
+
+-- Flags ------------------------------------------------------------------------------------------------------------------
 
 -- the status bits of an answer that is no cause
 abbrev pub bitsBy : Answer → ℕ

@@ -1,4 +1,5 @@
 -- `store_by` is `movedBytes`, by the direction: only a read stores, and `incomingAfter` is then the mark behind its word.
+use mathlib.Core.Path.{_∙_}
 use borrow.Author.Needs.{needs}
 use Rattle.take.proofs.HereCases.{room-incoming, stored-incoming, stored-outgoing, stored-neither}
 use Rattle.take.proofs.store_by.Statement.{statement}
@@ -10,12 +11,15 @@ direction-of-requires c κs = search needs
 enum-told : tie.Need-enum-told
 enum-told c = search needs
 
+longword-of-requires : tie.Need-longword-of-requires
+longword-of-requires c κs = search needs
+
 store-requires : tie.Need-store-requires
 store-requires c κs =
     room-incoming _ _
-    (c .before .before .before .direction-of .ensures)
-    _ _ (c .before .enum-told .given .1)
-    (c .before .before .before .before .before .pre)
+    (c .before .before .before .before .direction-of .ensures)
+    _ _ (c .before .before .enum-told .given .1)
+    (c .before .before .before .before .before .before .pre)
 
 enum-told-2 : tie.Need-enum-told-2
 enum-told-2 c = search needs
@@ -29,9 +33,9 @@ same-length c = search needs
 returns : tie.Need-returns
 returns c =
     stored-incoming _ _
-    (c .before .before .before .before .before .before .direction-of .ensures)
-    _ _ _ _ (c .before .before .before .before .enum-told .given .1)
-    (c .before .before .store .ensures)
+    (c .before .before .before .before .before .before .before .direction-of .ensures)
+    _ _ _ _ (c .before .before .before .before .before .enum-told .given .1)
+    (c .before .before .store .ensures ∙ rw (c .before .before .before .longword-of .ensures))
 
 returns-2 : tie.Need-returns-2
 returns-2 c = stored-outgoing _ _ (c .before .before .direction-of .ensures) _ _ _ (c .enum-told2 .given .1)
@@ -45,6 +49,7 @@ store-by-spec =
     (tie.spec
     direction-of-requires
     enum-told
+    longword-of-requires
     store-requires
     enum-told-2
     enum-told-3

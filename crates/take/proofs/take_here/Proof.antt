@@ -10,9 +10,6 @@ use Rattle.take.proofs.take_here.Tie as tie
 code-of-requires : tie.Need-code-of-requires
 code-of-requires c κs = search needs
 
-longword-of-requires : tie.Need-longword-of-requires
-longword-of-requires c κs = search needs
-
 counted-record-requires : tie.Need-counted-record-requires
 counted-record-requires c κs = search needs
 
@@ -23,7 +20,7 @@ done-by-requires : tie.Need-done-by-requires
 done-by-requires c κs = search needs
 
 go-on-requires : tie.Need-go-on-requires
-go-on-requires c κs = (c .before .before .before .before .before .before .before .before .pre, counted-marks _ _ _ _ _ (c .before .before .before .before .counted-record .ensures))
+go-on-requires c κs = (c .before .before .before .before .before .before .before .pre, counted-marks _ _ _ _ _ (c .before .before .before .before .counted-record .ensures))
 
 same-length : tie.Need-same-length
 same-length c = search needs
@@ -32,10 +29,10 @@ returns : tie.Need-returns
 unfolding hereRun hereBuffer
 returns c =
     let at-go-on = c .before .before in
-    let at-code = at-go-on .before .before .before .before .before .before .before in (
+    let at-code = at-go-on .before .before .before .before .before .before in (
       simp (← at-code .code-of .ensures, c .before .before .before .before .before .before .if1 .taken, ← c .before .before .before .before .before .qmode-of .ensures, ← c .before .before .before .before .done-by .ensures, ← c .before .before .before .before .before .before .before .counted-record .ensures)
           (at-go-on .go-on .ensures .0),
-      simp (← at-code .code-of .ensures, c .before .before .before .before .before .before .if1 .taken, ← c .before .before .before .before .before .qmode-of .ensures, ← c .before .before .before .before .done-by .ensures, ← c .before .before .before .before .before .before .before .before .longword-of .ensures)
+      simp (← at-code .code-of .ensures, c .before .before .before .before .before .before .if1 .taken, ← c .before .before .before .before .before .qmode-of .ensures, ← c .before .before .before .before .done-by .ensures)
           (at-go-on .go-on .ensures .1),
     )
 
@@ -43,7 +40,7 @@ moves-at-end-requires : tie.Need-moves-at-end-requires
 moves-at-end-requires c κs = search needs
 
 end-run-requires : tie.Need-end-run-requires
-end-run-requires c κs = (code-below _ _ _ _ _ (c .before .before .before .before .before .code-of .ensures), (c .before .before .before .before .before .before .before .pre, counted-marks _ _ _ _ _ (c .before .before .before .counted-record .ensures)))
+end-run-requires c κs = (code-below _ _ _ _ _ (c .before .before .before .before .code-of .ensures), (c .before .before .before .before .before .before .pre, counted-marks _ _ _ _ _ (c .before .before .before .counted-record .ensures)))
 
 same-length-2 : tie.Need-same-length-2
 same-length-2 c = search needs
@@ -52,10 +49,10 @@ returns-2 : tie.Need-returns-2
 unfolding hereRun hereBuffer
 returns-2 c =
     let at-end-run = c .before .before in
-    let at-code = c .before .before .before .before .before .before .before .before in (
+    let at-code = c .before .before .before .before .before .before .before in (
       simp (← at-code .code-of .ensures, ne-eqb _ _ (c .before .before .before .before .before .if1 .left), ← c .before .before .before .before .moves-at-end .ensures, ← c .before .before .before .before .before .before .counted-record .ensures)
           (at-end-run .end-run .ensures .0),
-      simp (← at-code .code-of .ensures, ne-eqb _ _ (c .before .before .before .before .before .if1 .left), ← c .before .before .before .before .moves-at-end .ensures, ← c .before .before .before .before .before .before .before .longword-of .ensures)
+      simp (← at-code .code-of .ensures, ne-eqb _ _ (c .before .before .before .before .before .if1 .left), ← c .before .before .before .before .moves-at-end .ensures)
           (at-end-run .end-run .ensures .1),
     )
 
@@ -64,7 +61,6 @@ take-here-spec =
     tie.close
     (tie.spec
     code-of-requires
-    longword-of-requires
     counted-record-requires
     qmode-of-requires
     done-by-requires

@@ -17,7 +17,7 @@ use crate::reply::{self, Reply, Response};
 use crate::run::{begin, current_camac, take};
 use crate::status;
 use crate::walk::{admission, Admitted};
-use crate::words::{enhanced_fault, Camac, Direction, EnhancedFault, QMode, Transfer};
+use crate::words::{enhanced_fault, Camac, Direction, EnhancedFault, QMode, Transfer, WordSize};
 
 /// A scan's positions from N 1, A 0.
 const MOST_POSITIONS: u64 = 368;
@@ -30,6 +30,13 @@ pub enum Mode {
     Enhanced,
     Sequencer,
     Inline,
+}
+
+/// Q and X of an answer.
+#[derive(Clone, Copy, Debug, PartialEq, Eq, PartialOrd, Ord)]
+pub struct Qx {
+    pub q: bool,
+    pub x: bool,
 }
 
 /// Something that a case can meet.
@@ -115,6 +122,12 @@ pub enum Event {
     ErrSaved,
     /// A scan's answer with ERR and X = 0 that ended nothing, AD = 0.
     ScanSkipsErr,
+    /// A 24-bit word stored in this transfer mode and Q-mode with these Q and X.
+    StoredWide(Mode, u8, Qx),
+    /// The same with code 9, where Q = X = 1.
+    StoredWideLeaving,
+    /// A 16-bit word stored with these Q and X.
+    StoredNarrow(Qx),
     /// A start that runs to its first operation, or to its end, or is refused.
     StartWaits,
     StartEnds,
@@ -177,6 +190,11 @@ impl Coverage {
     /// Counters for single replies to records that fit.
     pub fn of_replies() -> Coverage {
         Coverage::expecting(of_operations())
+    }
+
+    /// Counters for words stored.
+    pub fn of_stored() -> Coverage {
+        Coverage::expecting(of_stored_words())
     }
 
     /// Counters for cases of start, step and steps.
@@ -456,6 +474,9 @@ impl Coverage {
         if response.err {
             self.observe_err(&camac, before, response, after);
         }
+        if reads(&camac) && moved(before, after) {
+            self.observe_stored(&camac, response, code);
+        }
         if camac.q_mode == QMode::Scan {
             self.observe_scan(before, response, after);
         }
@@ -475,6 +496,19 @@ impl Coverage {
             }
             Mode::Single | Mode::Block | Mode::Inline => {}
         }
+    }
+
+    /// Counts what a word that was stored came with.
+    fn observe_stored(&mut self, camac: &Camac, response: &Response, code: u8) {
+        let qx = Qx {
+            q: response.q,
+            x: response.x,
+        };
+        self.met(match camac.size {
+            WordSize::Bits16 => Event::StoredNarrow(qx),
+            WordSize::Bits24 if code == 9 => Event::StoredWideLeaving,
+            WordSize::Bits24 => Event::StoredWide(mode(camac), q_number(camac), qx),
+        });
     }
 
     /// Counts what an answer with ERR meets.
@@ -563,7 +597,7 @@ fn of_operations() -> impl Iterator<Item = Event> {
         .flatten()
         .chain(again.into_iter().flatten());
     let events = ends.into_iter().chain(modes).chain(plain);
-    events.chain(of_damaged_commands())
+    events.chain(of_damaged_commands()).chain(of_stored_words())
 }
 
 /// The events of answers with ERR.
@@ -583,6 +617,27 @@ fn of_damaged_commands() -> impl Iterator<Item = Event> {
     ];
     let standard = standard.into_iter().flatten();
     standard.chain(enhanced).chain(under).chain(plain)
+}
+
+/// The events of words stored: Q = 0 only in ignore, the list sequencer's mode too; X = 0 not
+/// in scan.
+fn of_stored_words() -> impl Iterator<Item = Event> {
+    let standard = [Mode::Single, Mode::Block].map(|mode| (mode, 0..4));
+    let enhanced = [(Mode::Enhanced, 0..3), (Mode::Sequencer, 1..2)];
+    let modes = standard.into_iter().chain(enhanced);
+    let modes = modes.flat_map(|(mode, q_modes)| q_modes.map(move |q_mode| (mode, q_mode)));
+    let wide = modes.flat_map(|(mode, q_mode)| {
+        let qx = all_qx().filter(move |qx| (qx.q || q_mode == 1) && (qx.x || q_mode != 3));
+        qx.map(move |qx| Event::StoredWide(mode, q_mode, qx))
+    });
+    let narrow = all_qx().map(Event::StoredNarrow);
+    wide.chain(narrow).chain([Event::StoredWideLeaving])
+}
+
+fn all_qx() -> impl Iterator<Item = Qx> {
+    let both = [false, true];
+    let pairs = both.into_iter().flat_map(move |q| both.map(|x| (q, x)));
+    pairs.map(|(q, x)| Qx { q, x })
 }
 
 /// The events of words of transfer mode 2 that are refused.

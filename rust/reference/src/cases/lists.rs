@@ -243,9 +243,10 @@ fn read_or_write(rng: &mut Rng) -> u32 {
     (rng.pick(&[0, 16]) + rng.below(8) as u32) << 16
 }
 
-/// Any function, in its place in the word.
+/// Any function, in its place in the word; most of them read.
 fn any_function(rng: &mut Rng) -> u32 {
-    (rng.below(32) as u32) << 16
+    let functions = if rng.coin() { 8 } else { 32 };
+    (rng.below(functions) as u32) << 16
 }
 
 /// Crate, N and A in their places.

@@ -3,6 +3,7 @@
 //! engine with the calls of the C interface can be held against them.
 
 mod damaged;
+mod longwords;
 
 use super::by_hand::*;
 use crate::camrun::MOST_BYTES;
@@ -103,13 +104,13 @@ impl Known {
         let admission = (engine.admit)(&self.list, lengths.0, lengths.1);
         assert_eq!(admission_line(&admission), self.admission, "{}", self.name);
         self.check_run(engine, &admission);
-        if let Some(wanted) = self.wanted {
-            assert_eq!(self.wanted_by(engine), wanted, "{}", self.name);
+        if self.wanted.is_some() || self.stored.is_some() {
+            self.check_steps(engine);
         }
     }
 
-    /// The operation that start and a step for each reply come to.
-    fn wanted_by(&self, engine: &Engine) -> [u64; 6] {
+    /// Holds start and a step for each reply against the case.
+    fn check_steps(&self, engine: &Engine) {
         let mut incoming = vec![UNTOUCHED; self.incoming_len];
         let mut record = [0; 13];
         let mut answer = (engine.start)(&self.list, &mut incoming, &self.outgoing, &mut record);
@@ -124,7 +125,19 @@ impl Known {
         }
         let [number, place, wanted @ ..] = answer;
         assert_eq!((number, place), (0, 0), "{}", self.name);
-        wanted
+        if let Some(expected) = self.wanted {
+            assert_eq!(wanted, expected, "{}", self.name);
+        }
+        self.check_stored(&incoming, record[6]);
+    }
+
+    /// The bytes below the incoming mark are those of the case, those behind it untouched.
+    fn check_stored(&self, incoming: &[u8], mark: u64) {
+        let (stored, rest) = incoming.split_at(mark as usize);
+        assert!(rest.iter().all(|&byte| byte == UNTOUCHED), "{}", self.name);
+        if let Some(bytes) = &self.stored {
+            assert_eq!(stored, bytes, "{}", self.name);
+        }
     }
 
     fn check_run(&self, engine: &Engine, admission: &[u64; 5]) {
@@ -142,11 +155,7 @@ impl Known {
         } else if let Some(ending) = &self.ending {
             assert_eq!(&ending_line(&numbers), ending, "{}", self.name);
         }
-        let (stored, rest) = incoming.split_at(numbers[9] as usize);
-        assert!(rest.iter().all(|&byte| byte == UNTOUCHED), "{}", self.name);
-        if let Some(bytes) = &self.stored {
-            assert_eq!(stored, bytes, "{}", self.name);
-        }
+        self.check_stored(&incoming, numbers[9]);
         for (taken, position) in self.positions.iter().enumerate() {
             let (numbers, _) = run(&self.row[..8 * taken]);
             let waiting = (numbers[3], numbers[7], numbers[8]);
@@ -156,6 +165,7 @@ impl Known {
 }
 
 /// One step from a record on, and what it leaves.
+#[derive(Clone)]
 pub struct KnownStep {
     name: &'static str,
     list: Vec<u8>,
@@ -261,13 +271,16 @@ pub fn document_02() -> Vec<Known> {
         damaged::words(),
         damaged::scans(),
         damaged::under_greater_codes(),
+        longwords::ignored(),
+        longwords::words(),
+        longwords::unchanged(),
     ];
     requests.into_iter().flatten().collect()
 }
 
 /// Single steps of document 02's requests, from a record on.
 pub fn steps() -> Vec<KnownStep> {
-    damaged::steps()
+    [damaged::steps(), longwords::steps()].concat()
 }
 
 /// E1: the list sequencer, R = 1.
@@ -324,7 +337,7 @@ fn enhanced_blocks() -> Vec<Known> {
             "admitted 2 6 0",
         )
         .run(oks(&[0x12_3456]), "waiting 1 4")
-        .stores("56 34 12 00")
+        .stores("56 34 12 C0")
         .wants([1, 1, 0, 0, 0, 0]),
     ]
 }
@@ -413,8 +426,9 @@ fn packing_figures() -> Vec<Known> {
     let wide: Vec<u32> = (1..=4).map(|word| 0xA0_1000 + word * 0x1_0101).collect();
     let mixed = [0x1101, 0x1202, 0x1303, 0xA1_1101, 0x1404, 0x1505];
     let short_bytes = "01 11 02 12 03 13 04 14 05 15 06 16 07 17 08 18";
-    let wide_bytes = "01 11 A1 00 02 12 A2 00 03 13 A3 00 04 14 A4 00";
-    let mixed_bytes = "01 11 02 12 03 13 00 00 01 11 A1 00 04 14 05 15";
+    // The figures' top bytes are zero; by document 02's E9 they have Q and X.
+    let wide_bytes = "01 11 A1 C0 02 12 A2 C0 03 13 A3 C0 04 14 A4 C0";
+    let mixed_bytes = "01 11 02 12 03 13 00 00 01 11 A1 C0 04 14 05 15";
     let case = Known::new;
     vec![
         case("M10", eight(0x0C02_0322), "admitted 8 16 0")
@@ -433,7 +447,7 @@ fn packing_figures() -> Vec<Known> {
             .outgoing(hex(short_bytes))
             .run(oks(&[0; 8]), "end 0 00000080 8 0"),
         case("M14", eight(0x0C10_0320), "admitted 4 0 16")
-            .outgoing(hex(&wide_bytes.replace("00", "77")))
+            .outgoing(hex(wide_bytes))
             .run(oks(&[0; 4]), "end 0 00000080 4 0"),
         case("M15", list(M15), "admitted 6 0 16")
             .outgoing(hex(&mixed_bytes.replace("00", "99")))

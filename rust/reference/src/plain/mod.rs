@@ -33,6 +33,10 @@ const DERR: u64 = 1 << 11;
 const TPE: u64 = 1 << 12;
 const LPE: u64 = 1 << 13;
 
+/// The bits of a 24-bit word's longword that are Q and X.
+const STORED_Q: u32 = 1 << 31;
+const STORED_X: u32 = 1 << 30;
+
 /// Replies that are looked at together.
 const BATCH: usize = 8;
 
@@ -205,7 +209,7 @@ impl Visit {
             }
             seen |= answer;
             done += 1;
-            store(reply, place);
+            store(longword(reply), place);
         }
         self.seen = seen;
         self.done = done;
@@ -227,7 +231,7 @@ impl Visit {
                 break;
             }
             if answer & NO_Q == 0 {
-                store(reply, place);
+                store(longword(reply), place);
                 done += 1;
                 tries = 0;
             } else if tries + 1 == try_limit {
@@ -266,7 +270,7 @@ impl Visit {
                 break;
             }
             if is_done {
-                store(reply, place);
+                store(done_longword(reply), place);
                 done += 1;
             }
             at = next;
@@ -299,7 +303,7 @@ fn whole_batches<const BYTES: usize>(
         seen |= any;
         done += BATCH;
         for (reply, place) in replies.iter().zip(places) {
-            store(reply, place);
+            store(longword(reply), place);
         }
     }
     (done, seen)
@@ -325,10 +329,24 @@ fn leaves(visit: &Visit, answer: u64) -> bool {
     place_after(visit.place, done) == PAST_LAST && !(done && last_word)
 }
 
-/// A 24-bit word takes byte 7 too, which is zero.
+/// What a 24-bit read stores of an answer. Below Q an answer's number has its kind, which is 0.
 #[inline]
-fn store<const BYTES: usize>(reply: &Reply, place: &mut [u8; BYTES]) {
-    place.copy_from_slice(&reply[4..4 + BYTES]);
+fn longword(reply: &Reply) -> u32 {
+    let answer = number(reply);
+    let low = answer as u32;
+    (answer >> 32) as u32 | low << 23 | low << 21 & STORED_X
+}
+
+/// The same where Q = X = 1.
+#[inline]
+fn done_longword(reply: &Reply) -> u32 {
+    (number(reply) >> 32) as u32 | STORED_Q | STORED_X
+}
+
+/// Stores a longword, or its low half.
+#[inline]
+fn store<const BYTES: usize>(longword: u32, place: &mut [u8; BYTES]) {
+    place.copy_from_slice(&longword.to_le_bytes()[..BYTES]);
 }
 
 /// A run: its record, the flags that aren't yet in its status, the incoming buffer, and the
@@ -494,6 +512,7 @@ impl Run<'_> {
         (if left { status::SCAN_LEFT } else { 0 }, code)
     }
 
+    /// Moves the word of an answer with Q = X = 1.
     #[inline]
     fn move_one(&mut self, command: Command, reply: &Reply) {
         match (command.moves(), command.length()) {
@@ -512,7 +531,8 @@ impl Run<'_> {
             self.incoming[mark..offset].fill(0);
         }
         let mark = offset + BYTES;
-        self.incoming[offset..mark].copy_from_slice(&reply[4..4 + BYTES]);
+        let bytes = done_longword(reply).to_le_bytes();
+        self.incoming[offset..mark].copy_from_slice(&bytes[..BYTES]);
         self.record.incoming_mark = mark as u64;
         self.note(0, mark as u64, BYTES as u64);
     }
@@ -520,7 +540,7 @@ impl Run<'_> {
 
 #[cfg(test)]
 mod tests {
-    use super::{flags, CLEAN};
+    use super::{done_longword, flags, longword, CLEAN};
     use crate::reply::{read, Reply};
     use crate::status;
 
@@ -532,6 +552,18 @@ mod tests {
             };
             let seen = u64::from(byte) << 8 ^ CLEAN;
             assert_eq!(flags(seen), status::flags(&response));
+        }
+    }
+
+    #[test]
+    fn longwords_have_q_and_x() {
+        for byte in 0..64_u8 {
+            let reply = [0, byte, 0, 0, 0x56, 0x34, 0x92, 0];
+            let top = [0, 0x8000_0000, 0x4000_0000, 0xC000_0000][usize::from(byte % 4)];
+            assert_eq!(longword(&reply), top | 0x92_3456);
+            if byte % 4 == 3 {
+                assert_eq!(done_longword(&reply), longword(&reply));
+            }
         }
     }
 }

@@ -1,10 +1,9 @@
--- `put_narrow` stores the two low bytes of the answer's longword: they are bytes 4 and 5 of the answer.
-use Prim.Native.Nat.{_+_}
+-- `put_narrow` stores the two low bytes of the answer's longword: they are bytes 4 and 5 of the answer, whatever its Q and X.
 use borrow.Author.Needs.{needs}
 use native.Mathlib.Omega.{arith}
 use native.Mathlib.Numerals.{add-one}
 use lib.ListN.{length-set}
-use Rattle.row.proofs.WordLaws.{longword-bytes}
+use Rattle.row.proofs.WordLaws.{narrow-bytes}
 use Rattle.row.proofs.words.put_narrow.Statement.{statement}
 use Rattle.row.proofs.words.put_narrow.Tie as tie
 
@@ -37,8 +36,8 @@ returns c =
     let start = c .before .before in
     let byte = c .shared-slice-known2 .given in
     let at = start .args .at in
-    let b = longword-bytes (start .args .row .now) at (omega (arith, byte (at + 4))) (omega (arith, byte (at + 5))) (omega (arith, byte (at + 6))) in
-    rw (b .first, b .second, add-one (start .args .to))
+    let b = narrow-bytes (start .args .row .now) (λ i. omega (arith, byte i)) at in
+    rw (b .0, b .1, add-one (start .args .to))
 
 pub put-narrow-spec : {M : Type 1} → statement M
 put-narrow-spec =

@@ -1,34 +1,23 @@
--- `read_word` pads, then puts the answer's longword behind the pad; a 16-bit word has none. The mark behind it is the word's place and its width.
+-- `read_word` stores the answer's longword at the mark, behind its pad; a 16-bit word has none. The mark behind it is the word's place and its width.
 use borrow.Author.Needs.{needs}
 use mathlib.Core.Path.{sym, _∙_}
 use native.Mathlib.Omega.{arith}
-use Rattle.packing.proofs.MarkFacts.{mark-narrow, mark-wide, stored-narrow, stored-over}
-use Rattle.row.proofs.WordLaws.{reply-top}
+use Rattle.packing.proofs.MarkFacts.{mark-narrow, mark-wide, aligned-above, stored-narrow}
 use Rattle.row.proofs.words.read_word.Statement.{statement}
 use Rattle.row.proofs.words.read_word.Tie as tie
 
-pad-requires : tie.Need-pad-requires
-pad-requires c κs = rw (c .before .if1 .taken) at (c .before .before .before .before .pre .0)
+wide-at-requires : tie.Need-wide-at-requires
+wide-at-requires c κs = search needs
 
-mul-put-wide : tie.Need-mul-put-wide
-mul-put-wide c = search needs
+store-requires : tie.Need-store-requires
+store-requires c κs =
+    let at-if1 = c .before .before in rw (at-if1 .if1 .taken) at (at-if1 .before .before .before .pre .0)
 
-put-wide-requires : tie.Need-put-wide-requires
-put-wide-requires c κs =
-    let at-pad = c .before .before .before in
-    let at-if1 = at-pad .before .before in
+mark-after-requires : tie.Need-mark-after-requires
+mark-after-requires c κs =
+    let at-if1 = c .before .before .before .before .before in
     let start = at-if1 .before .before .before in
-    let room = rw (at-if1 .if1 .taken) at (start .pre .0) in (
-      omega (arith, mark-wide (start .args .mark), room, at-pad .pad .ensures .0, at-pad .pad .kept .0),
-      (start .pre .1 .0, reply-top (start .args .row .now) (start .pre .1 .1) (start .args .k) (omega arith)),
-    )
-
-add-result : tie.Need-add-result
-add-result c =
-    let at-pad = c .before .before .before .before .before .before in
-    let at-if1 = at-pad .before .before in
-    let start = at-if1 .before .before .before in
-    omega (arith, mark-wide (start .args .mark), rw (at-if1 .if1 .taken) at (start .pre .0), at-pad .pad .ensures .0)
+    omega (arith, mark-wide (start .args .mark), aligned-above (start .args .mark), rw (at-if1 .if1 .taken) at (start .pre .0))
 
 mul-put-narrow : tie.Need-mul-put-narrow
 mul-put-narrow c = search needs
@@ -38,8 +27,8 @@ put-narrow-requires c κs =
     let start = c .before .before .before .before in
     (omega (arith, mark-narrow (start .args .mark), rw (c .before .if1 .left) at (start .pre .0)), start .pre .1 .0)
 
-add-result-2 : tie.Need-add-result-2
-add-result-2 c =
+add-result : tie.Need-add-result
+add-result c =
     let at-if1 = c .before .before .before .before in
     let start = at-if1 .before .before .before in
     omega (arith, mark-narrow (start .args .mark), rw (at-if1 .if1 .left) at (start .pre .0))
@@ -49,10 +38,10 @@ same-length c = search needs
 
 returns : tie.Need-returns
 returns c =
-    let at-pad = c .before .before .before .before .before .before in
-    let at-if1 = at-pad .before .before in (
-      rw (at-pad .pad .ensures .0, at-if1 .if1 .taken) (sym (mark-wide _)),
-      c .before .before .put-wide .ensures ∙ rw (at-pad .pad .ensures .0, at-pad .pad .ensures .1, at-if1 .if1 .taken) (stored-over _ _ _),
+    let at-wide = c .before .before .before .before in
+    let at-if1 = at-wide .before .before in (
+      c .mark-after .ensures .0 ∙ rw (at-if1 .if1 .taken),
+      c .before .before .before .store .ensures ∙ rw (at-wide .wide-at .ensures, at-if1 .if1 .taken),
     )
 
 same-length-2 : tie.Need-same-length-2
@@ -70,13 +59,12 @@ pub read-word-spec : {M : Type 1} → statement M
 read-word-spec =
     tie.close
     (tie.spec
-    pad-requires
-    mul-put-wide
-    put-wide-requires
-    add-result
+    wide-at-requires
+    store-requires
+    mark-after-requires
     mul-put-narrow
     put-narrow-requires
-    add-result-2
+    add-result
     same-length
     returns
     same-length-2

@@ -14,12 +14,12 @@ use Rattle.whole_run.proofs.along.run_answers.Statement.{statement}
 use Rattle.whole_run.proofs.along.run_answers.Tie as tie
 
 abbrev Inv-loop : tie.InvT-loop
-Inv-loop list table sizes from incoming₀ row answers spot₀ begin longword₀ here₀ incoming spot longword here =
+Inv-loop list table sizes from incoming₀ row answers tops spot₀ begin longword₀ here₀ incoming spot longword here =
     (r : Record) → let z : Run = record { list = list; table = table; sizes = sizes; row = row; before = r; from = from; buffer = incoming₀ } in
     BeforeWord z longword₀ spot₀ here₀ incoming₀ → BeforeWord z longword spot here incoming
 
 abbrev μ-loop : tie.MeasureT-loop
-μ-loop list table sizes from incoming₀ row answers spot₀ begin longword₀ here₀ incoming spot longword here = length row - here .taken * 8
+μ-loop list table sizes from incoming₀ row answers tops spot₀ begin longword₀ here₀ incoming spot longword here = length row - here .taken * 8
 
 -- where the loop stands, for every record to set out with, and for the one that the function is given
 module _ (a : tie.At-loop Inv-loop μ-loop) where
@@ -93,7 +93,7 @@ loop-holds c = λ r x. x
 visit-requires : tie.Need-visit-requires Inv-loop μ-loop
 visit-requires c κs =
     let a = c .before in let p = start a .pre in
-    (p .0 .prepared .planned .small, (word a .command .passes, word-roomy (p .0) (p .1 .1) (word a)))
+    (p .0 .prepared .planned .small, (word a .command .passes, word-roomy (p .0) (p .1 .1) (word a)), p .2)
 
 same-length : tie.Need-same-length Inv-loop μ-loop
 same-length c = let m = c .before .before .before .before in passed m (word (at m)) .0 .kept

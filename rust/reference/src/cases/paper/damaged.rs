@@ -59,7 +59,7 @@ pub fn words() -> Vec<Known> {
     let narrow =
         |name, field, admission| second(name, field, admission, "end 4 40840080 2 2", "34 12");
     let wide = |name, field, admission| {
-        second(name, field, admission, "end 4 40840080 2 4", "34 12 56 00")
+        second(name, field, admission, "end 4 40840080 2 4", "34 12 56 C0")
     };
     let three = |first| double(first, 0xFFFF_FFFD);
     let two = |first| double(first, 0xFFFF_FFFC);
