@@ -1,7 +1,7 @@
 /*
  * The crate list engine for hosts in C and C++. Lists, replies, packing, status and refusals are those of document 01, "The crate list engine",
- * with enhanced blocks and the list sequencer (document 02, E1), with runs that a damaged command ends (E4), and with Q and X in the longwords of
- * 24-bit words (E9).
+ * with enhanced blocks and the list sequencer (document 02, E1), with runs that a damaged command ends (E4), with stop blocks that Q = 0 closes
+ * (E8), and with Q and X in the longwords of 24-bit words (E9).
  * Link libhost.a, which `rt staticlib host` makes for x86-64 Linux; every function that is declared and not defined here is proved.
  *
  * Which call. camlist_admit says whether a list is well formed and what it can need. A host that drives a crate calls camlist_start, makes the
@@ -10,7 +10,7 @@
  * one call: it begins at the list's start each time, and camlist_step goes on from the record in its answer.
  *
  * Cost. Every call reads the whole list and follows its walk anew: a step takes some 10,000 instructions for a short list and 0.6 million for one
- * of 4,000 fields. For many replies prefer camlist_steps or camlist_run, which read it once and take some 20 to 300 instructions a reply.
+ * of 4,000 fields. For many replies prefer camlist_steps or camlist_run, which read it once and take some 10 to 700 instructions a reply.
  *
  * Arguments. A slice is a pointer and its length in bytes; NULL is fine where the length is 0. Byte slices need no alignment, arrays of uint64_t
  * that of uint64_t; arrays may not be NULL. What a call writes (`incoming`, `record`, `answer`, `name`) overlaps no other argument; slices that
@@ -20,6 +20,7 @@
  * Versions. The names below stand for symbols with the version in them: an object that was compiled with the header of another version does
  * not link. Name the sizes of arrays by their constants. Version 2: the operation wanted has a sixth number, "enhanced", so that the answers of
  * camlist_start, camlist_step and camlist_steps are one number longer. E9 came within version 2: a stored 24-bit word's top byte was zero before it.
+ * So did E8: before it Q = 0 ended the run with code 7 in a stop block too. A record that was kept before E8 goes on by its rule.
  */
 #ifndef CAMLIST_H
 #define CAMLIST_H
@@ -47,8 +48,8 @@ extern "C" {
 
 /* The numbers of camlist_admit's answer. */
 #define CAMLIST_ADMIT_WORST 2    /* W, the most operations that a run can make */
-#define CAMLIST_ADMIT_INCOMING 3 /* B, the incoming bytes that a full run stores */
-#define CAMLIST_ADMIT_OUTGOING 4 /* O, the outgoing bytes that a full run takes */
+#define CAMLIST_ADMIT_INCOMING 3 /* B, the most incoming bytes that a run can store */
+#define CAMLIST_ADMIT_OUTGOING 4 /* O, the most outgoing bytes that a run can take */
 #define CAMLIST_ADMIT_NUMBERS 5
 
 /* The numbers of the answers of camlist_start and camlist_step: the operation wanted next. All six are 0 once the run has ended.
@@ -80,12 +81,12 @@ extern "C" {
 /* The numbers of a record: the state of a run. A host keeps them between calls, and need not look at them. */
 #define CAMLIST_RECORD_ENDED 0         /* 1 ended, 0 waiting for a reply */
 #define CAMLIST_RECORD_INSTRUCTION 1   /* the instruction that waits, or that ended the run */
-#define CAMLIST_RECORD_WORDS_LEFT 2    /* of that instruction; 0 after the end, as the next three */
+#define CAMLIST_RECORD_WORDS_LEFT 2    /* of that instruction, at most: Q = 0 may close a stop block; 0 after the end, as the next three */
 #define CAMLIST_RECORD_TRIES 3         /* made in vain for the current word, in repeat */
 #define CAMLIST_RECORD_N 4             /* current station */
 #define CAMLIST_RECORD_A 5             /* current subaddress */
-#define CAMLIST_RECORD_INCOMING_MARK 6 /* incoming bytes used so far */
-#define CAMLIST_RECORD_OUTGOING_MARK 7 /* outgoing bytes used so far */
+#define CAMLIST_RECORD_INCOMING_MARK 6 /* incoming bytes used so far; after a halt B, or less if blocks were short */
+#define CAMLIST_RECORD_OUTGOING_MARK 7 /* outgoing bytes used so far; after a halt O, or less */
 #define CAMLIST_RECORD_OPERATIONS 8    /* operations made */
 #define CAMLIST_RECORD_STATUS 9        /* CAMLIST_STATUS_*, and the code in bits 31 to 28 */
 #define CAMLIST_RECORD_NOTE_BUFFER 10  /* where the last moved word lies: 0 incoming, 1 outgoing, */
@@ -110,14 +111,15 @@ extern "C" {
 #define CAMLIST_REFUSED_INCOMING 20     /* incoming buffer shorter than B */
 #define CAMLIST_REFUSED_OUTGOING 21     /* outgoing buffer shorter than O */
 #define CAMLIST_REFUSED_ENDED 24        /* the record's first number is not 0: its run has ended */
-#define CAMLIST_REFUSED_RECORD 23       /* the record does not fit the list, or one of its numbers is too wide for its part */
+#define CAMLIST_REFUSED_RECORD 23       /* the record does not fit the list, or one of its numbers is too wide for its part; its marks
+                                           fit if even and not above those of a run in which no block is short */
 #define CAMLIST_REFUSED_REPLY 22        /* a reply, or one anywhere in a row, is not well formed; or the row is no multiple of 8 bytes */
 
 /* Codes of the status: why a run ended. */
-#define CAMLIST_CODE_NO_ERROR 0x0        /* halt */
+#define CAMLIST_CODE_NO_ERROR 0x0        /* halt, whether or not blocks were short */
 #define CAMLIST_CODE_ILLEGAL_COMMAND 0x1 /* never: admission refuses such lists */
 #define CAMLIST_CODE_SERIAL_ERROR 0x4    /* a command that reached its crate damaged: ERR with X = 1 and AD = 0 */
-#define CAMLIST_CODE_NO_Q 0x7            /* Q = 0 in stop */
+#define CAMLIST_CODE_NO_Q 0x7            /* Q = 0 in stop, of a single or an inline write; it closes a stop block */
 #define CAMLIST_CODE_NO_X 0x8            /* X = 0 with AD = 0, not in scan */
 #define CAMLIST_CODE_N_ABOVE_23 0x9      /* a scan left station 23 */
 #define CAMLIST_CODE_STE 0xA             /* parity error (TPE or LPE) with AD = 0 */
@@ -136,7 +138,7 @@ extern "C" {
 #define CAMLIST_STATUS_NOT_RECOGNISED 0x00080000u /* 19 */
 #define CAMLIST_STATUS_TRANSMISSION 0x00040000u   /* 18: TPE, LPE or ERR */
 #define CAMLIST_STATUS_NO_X 0x00020000u           /* 17: X = 0 */
-#define CAMLIST_STATUS_NO_Q 0x00010000u           /* 16: Q = 0 */
+#define CAMLIST_STATUS_NO_Q 0x00010000u           /* 16: Q = 0, of an answer that closed a block too */
 #define CAMLIST_STATUS_ENDED 0x00000080u          /* 7 */
 
 /* The calls -------------------------------------------------------------------------------------------------------------------------------- */
@@ -324,13 +326,14 @@ static inline int camlist_put_words(camlist_bytes *list, unsigned mode, unsigned
     return camlist_put_camac(list, 8, mode, crate, n, a, f, options, 0u - halfwords, is_right && words <= 65536u);
 }
 
-/* A block of words: up to 65,536 of 16 bits, 32,768 of 24. */
+/* A block of words: up to 65,536 of 16 bits, 32,768 of 24. In stop they may be fewer: an answer with Q = 0 and no cause to end the run closes the
+   block. That word is not moved, bit 16 of the status is set, and the list goes on at the marks reached. */
 static inline int camlist_put_block(camlist_bytes *list, unsigned crate, unsigned n, unsigned a, unsigned f, unsigned options, uint32_t words)
 {
     return camlist_put_words(list, 1, crate, n, a, f, options, words, 1);
 }
 
-/* The same as an enhanced block: stop, ignore, or repeat for reads. */
+/* The same as an enhanced block: stop, which Q = 0 closes too, ignore, or repeat for reads. */
 static inline int camlist_put_enhanced(camlist_bytes *list, unsigned crate, unsigned n, unsigned a, unsigned f, unsigned options, uint32_t words)
 {
     return camlist_put_words(list, 2, crate, n, a, f, options, words, 1);

@@ -1,6 +1,7 @@
 /*
  * Admits lists, runs them over replies that stand for a crate's, and prints the samples and how each run ended: document 01's worked
- * case, a digitizer read in one block, a crate that falls silent, a list that is refused, and 24-bit scalers of which one does not answer.
+ * case, a digitizer read in one block, one with fewer samples than asked, a crate that falls silent, a list that is refused, and 24-bit scalers
+ * of which one does not answer.
  *
  * `rt staticlib host` in the repository's root, then `make run` here.
  */
@@ -10,6 +11,7 @@
 #include "camlist.h"
 
 #define SAMPLES 64
+#define FEWER 40
 #define TRY_LIMIT 3
 
 static void print_refusal(const uint64_t *answer)
@@ -81,11 +83,12 @@ static void read_out(const char *title, const camlist_bytes *list, const uint8_t
 
 int main(void)
 {
-    uint8_t room[4][32];
+    uint8_t room[5][32];
     camlist_bytes worked = {room[0], sizeof room[0], 0, 0};
     camlist_bytes digitizer = {room[1], sizeof room[1], 0, 0};
     camlist_bytes nowhere = {room[2], sizeof room[2], 0, 0};
     camlist_bytes scalers = {room[3], sizeof room[3], 0, 0};
+    camlist_bytes stopping = {room[4], sizeof room[4], 0, 0};
     uint8_t worked_room[CAMLIST_REPLY_BYTES];
     camlist_bytes worked_row = {worked_room, sizeof worked_room, 0, 0};
     uint8_t counts_room[3 * CAMLIST_REPLY_BYTES];
@@ -103,7 +106,12 @@ int main(void)
     camlist_put_block(&digitizer, 3, 6, 0, 2, CAMLIST_IGNORE | CAMLIST_16_BIT, SAMPLES);
     camlist_put_halt(&digitizer);
 
-    /* The same at station 24, which no crate has. */
+    /* The same in stop: Q = 0 says that there are no more samples, and closes the block. */
+    camlist_put_head(&stopping, TRY_LIMIT);
+    camlist_put_block(&stopping, 3, 6, 0, 2, CAMLIST_STOP | CAMLIST_16_BIT, SAMPLES);
+    camlist_put_halt(&stopping);
+
+    /* The digitizer's list at station 24, which no crate has. */
     camlist_put_head(&nowhere, TRY_LIMIT);
     camlist_put_block(&nowhere, 3, 24, 0, 2, CAMLIST_IGNORE | CAMLIST_16_BIT, SAMPLES);
     camlist_put_halt(&nowhere);
@@ -123,12 +131,16 @@ int main(void)
     camlist_put_answer(&counts, 0, 0);
     camlist_put_answer(&counts, CAMLIST_X, 890);
 
-    if (worked.failed || digitizer.failed || nowhere.failed || scalers.failed || worked_row.failed || counts.failed || pulse.failed) {
+    if (worked.failed || digitizer.failed || nowhere.failed || scalers.failed || stopping.failed || worked_row.failed || counts.failed ||
+        pulse.failed) {
         return 1;
     }
     read_out("Worked case", &worked, worked_row.bytes, worked_row.length, print_samples);
     read_out("Digitizer", &digitizer, pulse.bytes, pulse.length, print_samples);
     read_out("Digitizer, first 20 replies", &digitizer, pulse.bytes, 20 * CAMLIST_REPLY_BYTES, print_samples);
+    pulse.length = FEWER * CAMLIST_REPLY_BYTES;
+    camlist_put_answer(&pulse, CAMLIST_X, 0);
+    read_out("Digitizer with fewer samples", &stopping, pulse.bytes, pulse.length, print_samples);
     pulse.length = 8 * CAMLIST_REPLY_BYTES;
     camlist_put_timeout(&pulse);
     pulse.length = sizeof pulse_room;

@@ -12,7 +12,7 @@ use lib.Dec.{eqb, ltb}
 use lib.ListN.{length, take, drop}
 use Rattle.base.specs.Checks.{if_then_else_}
 use Rattle.base.proofs.Tests.{on}
-use Rattle.camac.specs.Words.{qmodeOf, directionOf}
+use Rattle.camac.specs.Words.{qmodeOf, isBlock, directionOf}
 use Rattle.qmodes.specs.Scan.{afterDone, afterOther}
 use Rattle.qmodes.specs.declared.scan.Moved.the-variants.{At}
 use Rattle.qmodes.specs.Modes.{done, leftAfter, spent, ranOff, leaves, scanLeaves, triesAfter, positionAfter}
@@ -75,22 +75,24 @@ next-place n left h more =
     (λ e. let g : 1 ≤ 0x17F - n = rw e at h in omega arith)
     (λ e. let g : 1 ≤ left = rw e at h in omega (arith, ltb-false (0x17F - n + 1) left e))
 
--- an answer by which no try, and no scan, comes to its end; where a word is left, the next operation is at place `next`
+-- an answer by which no try, no scan and no block comes to its end; where a word is left, the next operation is at place `next`
 record Onward (limit : ℕ) (q : QMode) (a : Answer) (tries n left : ℕ) (d : Bool) (next : ℕ) : Type 0 where
   unspent : spent limit q a tries ≡ false
   stays : scanLeaves q a (positionAt n) left ≡ false
-  position : ¬ (leftAfter d left ≡ 0) → positionAfter q d (positionAt n) ≡ positionAt next
+  remains : leftAfter q d left ≡ (if d then left - 1 else left)
+  position : ¬ (leftAfter q d left ≡ 0) → positionAfter q d (positionAt n) ≡ positionAt next
 
 module _ (limit : ℕ) (a : Answer) (tries n left : ℕ) where
   word-onward : (q : QMode) → done q a ≡ true → 1 ≤ wordsAhead q n left → Onward limit q a tries n left true (placeAfterWords q n 1)
   unfolding leaves positionAfter
-  word-onward Stop d h = record { unspent = refl; stays = refl; position = λ more. refl }
-  word-onward Ignore d h = record { unspent = refl; stays = refl; position = λ more. refl }
-  word-onward Repeat d h = record { unspent = rw d; stays = refl; position = λ more. refl }
+  word-onward Stop d h = record { unspent = refl; stays = refl; remains = refl; position = λ more. refl }
+  word-onward Ignore d h = record { unspent = refl; stays = refl; remains = refl; position = λ more. refl }
+  word-onward Repeat d h = record { unspent = rw d; stays = refl; remains = refl; position = λ more. refl }
   word-onward Scan d h = record {
     unspent = refl;
     stays = on (eqb (left - 1) 0) (λ e. rw (d, e) (and-false (ranOff (afterDone (positionAt n)))))
         (λ e. rw (d, done-next n (next-place n left h (eqb-false (left - 1) 0 e))));
+    remains = refl;
     position = λ more. rw (done-next n (next-place n left h more));
   }
 
@@ -101,10 +103,11 @@ module _ (limit : ℕ) (a : Answer) (tries n left : ℕ) where
   wait-onward Repeat d h = record {
     unspent = rw (d, ne-eqb (tries + 1) limit (λ e. omega (arith, ltb-true (tries + 1) limit h)));
     stays = refl;
+    remains = refl;
     position = λ more. refl;
   }
   wait-onward Scan d h =
-      let next = other-next n (ltb-true n 0x170 h) in record { unspent = refl; stays = rw (d, next); position = λ more. rw next }
+      let next = other-next n (ltb-true n 0x170 h) in record { unspent = refl; stays = rw (d, next); remains = refl; position = λ more. rw next }
 
 tries-none : (q : QMode) (tries : ℕ) → triesAfter q true tries ≡ 0
 unfolding triesAfter
@@ -180,7 +183,7 @@ module _ {row : List ℕ} {answers : ℕ} (read : Read row answers) (limit : ℕ
   no-cause : {d : Bool} {next : ℕ} → Fine word (qmodeOf (c .transfer)) (c .ad) (flagsAt row (u .taken))
       → Onward limit (qmodeOf (c .transfer)) answer (u .tries) (u .position) (u .left) d next → NoCause limit c (at u) answer
   unfolding recordAt
-  no-cause f o = record { unspent = o .unspent; parity = f .parity; stays = o .stays; x = f .x; q = f .q-set; undamaged = f .undamaged }
+  no-cause f o = record { unspent = o .unspent; parity = f .parity; stays = o .stays; x = f .x; q = f .q-set (isBlock (c .transfer)); undamaged = f .undamaged }
 
   -- an operation more, and its flags gathered
   operations : at u .operations + 1 ≡ r .operations + (u .taken + 1 - from)
@@ -252,7 +255,7 @@ module _ {row : List ℕ} {answers : ℕ} (read : Read row answers) (limit : ℕ
         let o = wait-onward limit answer (u .tries) (u .position) (u .left) (qmodeOf (c .transfer)) (t .1) (w .tried) in
         let n = no-cause (t .0) o in
         let more : ¬ (u .left ≡ 0) = λ e. omega (arith, w .some) in
-        rw (no-causes n, t .1, ne-eqb (u .left) 0 more, o .position more, operations, status n)
+        rw (no-causes n, t .1, o .remains, ne-eqb (u .left) 0 more, o .position (rw (o .remains) more), operations, status n)
 
     pub wait-leads : Leads limit c r row from k u x (afterWait (rulesOf c) u) x
     unfolding afterWait

@@ -1,1 +1,2 @@
 pub mod FitCases
+pub mod FitsStill

@@ -1,5 +1,5 @@
 -- A record fits the list (document 01, "The calls", its paragraph on fit; refusal 23).
-use Prim.Native.Nat.{ℕ, _+_, _-_}
+use Prim.Native.Nat.{ℕ, _+_, _-_, _%_}
 use mathlib.Core.Bool.{Bool, false, _&&_, _||_, not}
 use mathlib.Core.List.{List, [], _∷_}
 use lib.Dec.{leb, eqb}
@@ -17,11 +17,15 @@ use Rattle.reply.specs.declared.records.Note.{Note}
 use Rattle.reply.specs.declared.records.Record.{Record}
 use Rattle.qmodes.specs.Modes.{triesFit, positionFits, mostLeft}
 
--- "both marks are those of the walk with the moved words"
+-- "each mark need only be even and no greater than the old one at its place" (document 02, E8)
+abbrev pub markFits : ℕ → ℕ → Bool
+markFits mark old = eqb (mark % 2) 0 && leb mark old
+
+-- the old ones: the marks "of the walk with the moved words"
 unfoldable pub marksFit : Command → Marks → Record → Bool
 marksFit c m r =
-    eqb (r .marks .incoming) (movedWords (wordsOf (c .transfer) - r .left) c m .incoming)
-    && eqb (r .marks .outgoing) (movedWords (wordsOf (c .transfer) - r .left) c m .outgoing)
+    let old : Marks = movedWords (wordsOf (c .transfer) - r .left) c m in
+    markFits (r .marks .incoming) (old .incoming) && markFits (r .marks .outgoing) (old .outgoing)
 
 -- "the note is zeros, or two or four bytes of its buffer below that buffer's mark"
 unfoldable pub noteFits : Note → Marks → Bool

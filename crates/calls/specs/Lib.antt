@@ -1,3 +1,4 @@
 pub mod Fit
+pub mod Before
 pub mod Calls
 pub mod model

@@ -10,7 +10,7 @@ ghost use Rattle.camac.specs.Words.{wordsOf};
 ghost use lib.Dec.{leb};
 ghost use Rattle.packing.specs.model.Marks.{MarksTo};
 ghost use Rattle.walk.specs.Walk.{movedWords};
-ghost use Rattle.calls.specs.Fit.{marksFit, noteFits, fitsAt};
+ghost use Rattle.calls.specs.Fit.{markFits, marksFit, noteFits, fitsAt};
 ghost use Rattle.calls.specs.model.Bounds.{Bounded, fitsCommand, fitsWalk};
 
 // The marks after some words. A block has at most 65,536 words, and admission's marks are even and below 2^60.
@@ -42,16 +42,23 @@ pub fn moved_words(words: u64, c: Command, m: Marks) -> Marks
     }
 }
 
-// Whether a record's marks are the walk's with the moved words. Words and marks are an admitted list's.
+// Whether a mark may be a record's where the walk's is `old`.
+fn mark_fits(mark: usize, old: usize) -> bool
+    ensures { λ r. ⌜ r ≡ markFits mark old ⌝ }
+{
+    (mark % 2 == 0) & (mark <= old)
+}
+
+// Whether a record's marks are even and at most the walk's with the moved words. Words and marks are an admitted list's.
 fn marks_fit(c: Command, m: Marks, r: Record) -> bool
-    requires { ⌜ (wordsOf (c .transfer) ≤ 2 ^ 16) × MarksTo (2 ^ 60) m ⌝ }
+    requires { ⌜ (wordsOf (c .transfer) ≤ 2 ^ 16) × (MarksTo (2 ^ 60) m × (r .left ≤ wordsOf (c .transfer))) ⌝ }
     ensures { λ x. ⌜ x ≡ marksFit c m r ⌝ }
 {
     let t = c.transfer;
     let marks = r.marks;
-    let words = base::less(camac::words_of(t), base::u64_of_size(r.left));
+    let words = camac::words_of(t) - base::u64_of_size(r.left);
     let there = moved_words(words, c, m);
-    (marks.incoming == there.incoming) & (marks.outgoing == there.outgoing)
+    mark_fits(marks.incoming, there.incoming) & mark_fits(marks.outgoing, there.outgoing)
 }
 
 // Whether size bytes from an offset end by `end`; their sum may not fit.

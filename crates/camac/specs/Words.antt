@@ -144,6 +144,13 @@ isEnhanced (Block q a n) = false
 isEnhanced (Enhanced q a n) = true
 isEnhanced (Inline q a word) = false
 
+-- "enhanced or standard": a block (E8)
+unfoldable pub isBlock : Transfer → Bool
+isBlock (Single q a) = false
+isBlock (Block q a n) = true
+isBlock (Enhanced q a n) = true
+isBlock (Inline q a word) = false
+
 -- the position at which a scan begins: the instruction's own N and A
 abbrev pub positionOf : Transfer → ScanPosition
 positionOf t = record { station = addressOf t .station; subaddress = addressOf t .subaddress }

@@ -23,6 +23,7 @@ pub use words::camac_fault;
 pub use words::command_in;
 pub use words::decode;
 pub use words::direction_of;
+pub use words::is_block_of;
 pub use words::is_enhanced;
 pub use words::numbered_qmode;
 pub use words::position_of;

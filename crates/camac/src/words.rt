@@ -13,7 +13,7 @@ ghost use mathlib.Core.Path.{_≡_};
 ghost use Prim.Native.Nat.{ℕ};
 ghost use lib.Dec.{eqb};
 ghost use Rattle.base.specs.Checks.{if_then_else_};
-ghost use Rattle.camac.specs.Words.{modeIn, qmodeBits, qmodeNumbered, qmodeIn, addressIn, isControl, isWrite, halfwords, blockWords, transferIn, commandIn, qmodeOf, addressOf, wordsOf, directionBy, enhancedDirection, directionOf, isEnhanced, positionOf, zeroBitSet, badAddress, isSequencerAt, badEnhanced, badMode, badCount, aboveWord, badSecond, aboveP, camacFault, decodeOf};
+ghost use Rattle.camac.specs.Words.{modeIn, qmodeBits, qmodeNumbered, qmodeIn, addressIn, isControl, isWrite, halfwords, blockWords, transferIn, commandIn, qmodeOf, addressOf, wordsOf, directionBy, enhancedDirection, directionOf, isEnhanced, isBlock, positionOf, zeroBitSet, badAddress, isSequencerAt, badEnhanced, badMode, badCount, aboveWord, badSecond, aboveP, camacFault, decodeOf};
 ghost use lib.ListN.{length};
 
 pub struct Address {
@@ -241,6 +241,17 @@ pub fn is_enhanced(t: Transfer) -> bool
     match t {
         Transfer::Single(_, _) => false,
         Transfer::Block(_, _, _) => false,
+        Transfer::Enhanced(_, _, _) => true,
+        Transfer::Inline(_, _, _) => false,
+    }
+}
+
+pub fn is_block_of(t: Transfer) -> bool
+    ensures { λ r. ⌜ r ≡ isBlock t ⌝ }
+{
+    match t {
+        Transfer::Single(_, _) => false,
+        Transfer::Block(_, _, _) => true,
         Transfer::Enhanced(_, _, _) => true,
         Transfer::Inline(_, _, _) => false,
     }

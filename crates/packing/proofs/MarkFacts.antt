@@ -1,4 +1,4 @@
--- Fill marks never fall, stay even, and have a closed form over the words: behind its pad a 24-bit word from an even mark lies at a multiple of 4,
+-- Fill marks never fall, stay even and in order, and have a closed form over the words: behind its pad a 24-bit word from an even mark lies at a multiple of 4,
 -- so that a pad can come before the first only. What is stored lies between the mark and the mark after it.
 use Prim.Native.Nat.{ℕ, zero, suc, _+_, _*_, _%_, _≤_, _<_}
 use mathlib.Core.Path.{_≡_, refl}
@@ -48,6 +48,12 @@ module _ (m : ℕ) (even : m % 2 ≡ 0) where
       on (eqb (m % 4) 2)
       (λ e. rw e (eqb-true (m % 4) 2 e))
       (λ e. let h : m % 4 ≡ 2 → ⊥ = eqb-false (m % 4) 2 e in rw e (omega arith))
+
+  -- padding keeps the order of even marks
+  pub mark-order : (wide : Bool) (n : ℕ) → m ≤ n → markAfter wide m ≤ markAfter wide n
+  unfolding markAfter alignedMark padAt widthOf
+  mark-order false n h = omega arith
+  mark-order true n h = omega arith
 
 pub aligned-above : (m : ℕ) → m ≤ alignedMark true m
 unfolding alignedMark

@@ -1,5 +1,5 @@
--- A scan leaves station 23, by whether the word is done, where the scan goes and how many words are left; the last try of a word, from R.
-use Prim.Native.Nat.{ℕ, _-_, _+_, _<_, _≤_}
+-- A scan leaves station 23, by whether the word is done, where the scan goes and how many words are left.
+use Prim.Native.Nat.{ℕ, _-_, _<_, _≤_}
 use mathlib.Core.Path.{_≡_}
 use mathlib.Core.Bool.{Bool, true, false, not}
 use native.Mathlib.Omega.{arith}
@@ -12,7 +12,7 @@ use Rattle.qmodes.specs.declared.scan.Moved.{Moved}
 use Rattle.qmodes.specs.declared.scan.Moved.the-variants.{At, RanOff}
 use Rattle.qmodes.specs.Modes.{done, leaves}
 use Rattle.qmodes.specs.declared.modes.Answer.{Answer}
-use Rattle.base.proofs.Tests.{on, eqb-same}
+use Rattle.base.proofs.Tests.{on}
 
 more-than-one : (left : ℕ) → ltb 1 left ≡ not (eqb (left - 1) 0)
 more-than-one left =
@@ -37,7 +37,3 @@ pub leaves-other :
     → done Scan a ≡ false → x ≡ afterOther p → x ≡ RanOff → not (eqb left 0) ≡ leaves a p left
 unfolding leaves
 leaves-other a p left x d e h = rw (d, ← e, h)
-
--- the last try, from R
-pub last-try : (limit tries : ℕ) → ¬ (limit ≡ 0) → eqb tries (limit - 1) ≡ eqb (tries + 1) limit
-last-try limit tries h = eqb-same tries (limit - 1) (tries + 1) limit (λ e. omega arith) (λ e. omega arith)

@@ -5,14 +5,15 @@ use mathlib.Core.Path.{_≡_, refl, ap}
 use mathlib.Core.Bool.{Bool, true, false, _&&_, not}
 use native.Mathlib.Omega.{arith}
 use native.Mathlib.Nat.{mul-le-mul-right}
-use borrow.Author.Tests.{ne-eqb, eqb-true, eqb-false, not-false}
+use borrow.Author.Tests.{ne-eqb, eqb-true, eqb-false}
 use lib.Dec.{eqb}
 use Rattle.qmodes.specs.Scan.{positions, afterDone, afterOther, afterAnswer}
 use Rattle.qmodes.specs.declared.modes.QMode.{QMode}
 use Rattle.qmodes.specs.declared.modes.QMode.the-variants.{Stop, Ignore, Repeat, Scan}
 use Rattle.qmodes.specs.declared.scan.ScanPosition.{ScanPosition}
 use Rattle.base.proofs.Bools.{and-not-left}
-use Rattle.qmodes.specs.Modes.{done, leftAfter, ranOff, leaves, scanLeaves, spent, noQInStop, triesAfter, positionAfter, mostLeft}
+use Rattle.base.proofs.Tests.{on}
+use Rattle.qmodes.specs.Modes.{done, leftAfter, ranOff, leaves, scanLeaves, spent, triesAfter, positionAfter, mostLeft}
 use Rattle.qmodes.specs.declared.modes.Answer.{Answer}
 use Rattle.qmodes.proofs.ScanFalls.{InRange, scan-some, done-case, other-case, done-falls, other-falls, done-range, other-range, scan-last}
 
@@ -51,14 +52,17 @@ most-some limit Ignore from p left tries rest hl ht hp = omega arith
 most-some limit Repeat from p left tries rest hl ht hp = omega (arith, mul-le-mul-right limit hl)
 most-some limit Scan from p left tries rest hl ht hp = scan-some limit p left rest (hp .station) (hp .subaddress) hl
 
--- how an answer without a cause brings a run on: to the next instruction, or to the next word or try of this one
+-- how an answer without a cause brings a run on: to the next instruction, its last word done or, never in the slowest run, its block closed; or
+-- to the next word or try of this one
 pub data Progress (slow : Bool) (limit : ℕ) (q : QMode) (from p : ScanPosition) (left tries rest : ℕ) (isDone : Bool) : Type 0 where
   finished : isDone ≡ true → left ≡ 1 → Near slow (rest + 1) (mostLeft limit q p left tries rest)
       → Progress slow limit q from p left tries rest isDone
-  going : 1 ≤ leftAfter isDone left → TriesOk limit q (triesAfter q isDone tries)
+  closed : slow ≡ false → isDone ≡ false → q ≡ Stop → Near slow (rest + 1) (mostLeft limit q p left tries rest)
+      → Progress slow limit q from p left tries rest isDone
+  going : 1 ≤ leftAfter q isDone left → TriesOk limit q (triesAfter q isDone tries)
       → PositionOk q from (positionAfter q isDone p)
-      → Room slow q (positionAfter q isDone p) (leftAfter isDone left)
-      → Near slow (mostLeft limit q (positionAfter q isDone p) (leftAfter isDone left) (triesAfter q isDone tries) rest + 1)
+      → Room slow q (positionAfter q isDone p) (leftAfter q isDone left)
+      → Near slow (mostLeft limit q (positionAfter q isDone p) (leftAfter q isDone left) (triesAfter q isDone tries) rest + 1)
       (mostLeft limit q p left tries rest)
       → Progress slow limit q from p left tries rest isDone
 
@@ -81,6 +85,11 @@ module _ (limit : ℕ) (from p : ScanPosition) (left tries rest : ℕ) (some : 1
       go false e =
           let two : left ≡ 1 → ⊥ = eqb-false left 1 e in
           going (omega arith) refl hp tt (near-eq slow _ _ (omega arith))
+
+  -- stop: a block closed, which the slowest answer never does
+  stop-closed : Progress false limit Stop from p left tries rest false
+  unfolding mostLeft
+  stop-closed = closed refl refl refl (omega arith)
 
   pub ignore-done : (slow : Bool) → PositionOk Ignore from p → Progress slow limit Ignore from p left tries rest true
   unfolding mostLeft triesAfter positionAfter
@@ -121,7 +130,7 @@ module _ (limit : ℕ) (from p : ScanPosition) (left tries rest : ℕ) (some : 1
 
   -- scan: any answer at which the scan does not leave
   scan-any : (b : Bool) → TriesOk limit Scan tries → PositionOk Scan from p
-      → ranOff (afterAnswer b p) && not (eqb (leftAfter b left) 0) ≡ false → Progress false limit Scan from p left tries rest b
+      → ranOff (afterAnswer b p) && not (eqb (leftAfter Scan b left) 0) ≡ false → Progress false limit Scan from p left tries rest b
   unfolding triesAfter positionAfter
   scan-any true ht hp stays = go (eqb left 1) refl
     where
@@ -142,16 +151,18 @@ module _ (limit : ℕ) (from p : ScanPosition) (left tries rest : ℕ) (some : 1
 -- any answer without a cause
 pub answer-progress : (limit : ℕ) (q : QMode) (from p : ScanPosition) (left tries rest : ℕ) (a : Answer) → 1 ≤ left
     → TriesOk limit q tries → PositionOk q from p → spent limit q a tries ≡ false
-    → scanLeaves q a p left ≡ false
-    → noQInStop q a ≡ false → Progress false limit q from p left tries rest (done q a)
+    → scanLeaves q a p left ≡ false → Progress false limit q from p left tries rest (done q a)
 unfolding leaves
-answer-progress limit Stop from p left tries rest a some ht hp hs hv hq = rw (not-false (a .q) hq) (stop-done limit from p left tries rest some false hp)
-answer-progress limit Ignore from p left tries rest a some ht hp hs hv hq = ignore-done limit from p left tries rest some false hp
-answer-progress limit Repeat from p left tries rest a some ht hp hs hv hq = go (a .q) hs
+answer-progress limit Stop from p left tries rest a some ht hp hs hv =
+    on (a .q)
+    (λ e. rw e (stop-done limit from p left tries rest some false hp))
+    (λ e. rw e (stop-closed limit from p left tries rest some))
+answer-progress limit Ignore from p left tries rest a some ht hp hs hv = ignore-done limit from p left tries rest some false hp
+answer-progress limit Repeat from p left tries rest a some ht hp hs hv = go (a .q) hs
   where
     go : (b : Bool) → not b && eqb (tries + 1) limit ≡ false → Progress false limit Repeat from p left tries rest b
     go true e = repeat-done limit from p left tries rest some false ht hp (omega arith)
     go false e =
         let other : tries + 1 ≡ limit → ⊥ = eqb-false (tries + 1) limit e in
         repeat-again limit from p left tries rest some false (omega arith) hp
-answer-progress limit Scan from p left tries rest a some ht hp hs hv hq = scan-any limit from p left tries rest some (done Scan a) ht hp hv
+answer-progress limit Scan from p left tries rest a some ht hp hs hv = scan-any limit from p left tries rest some (done Scan a) ht hp hv

@@ -8,7 +8,7 @@ use native.Mathlib.Omega.{arith}
 use borrow.Author.Tests.{eq-eqb, eqb-true, eqb-false, lt-ltb, ltb-true}
 use lib.Dec.{eqb, ltb}
 use Rattle.qmodes.specs.Scan.{positions, afterDone, afterAnswer}
-use Rattle.qmodes.specs.Modes.{done, leaves, scanLeaves, ranOff, leftAfter, spent, noQInStop, triesAfter, positionAfter, misses, slowestQ}
+use Rattle.qmodes.specs.Modes.{done, leaves, scanLeaves, ranOff, leftAfter, spent, noQInStop, closes, triesAfter, positionAfter, misses, slowestQ}
 use Rattle.qmodes.specs.declared.modes.QMode.{QMode}
 use Rattle.qmodes.specs.declared.modes.QMode.the-variants.{Stop, Ignore, Repeat, Scan}
 use Rattle.qmodes.specs.declared.modes.Answer.{Answer}
@@ -23,7 +23,8 @@ slowestAnswer q = record { q = q; x = true; err = false; derr = false; tpe = fal
 pub record Slowest (limit : ℕ) (q : QMode) (from p : ScanPosition) (left tries rest : ℕ) : Type 0 where
   pub unspent : spent limit q (slowestAnswer (slowestQ limit q left tries p)) tries ≡ false
   pub stays : scanLeaves q (slowestAnswer (slowestQ limit q left tries p)) p left ≡ false
-  pub answers-q : noQInStop q (slowestAnswer (slowestQ limit q left tries p)) ≡ false
+  pub answers-q : (isBlock : Bool) → noQInStop q isBlock (slowestAnswer (slowestQ limit q left tries p)) ≡ false
+  pub closes-none : (isBlock : Bool) → closes q isBlock (slowestAnswer (slowestQ limit q left tries p)) ≡ false
   pub progress : Progress true limit q from p left tries rest (done q (slowestAnswer (slowestQ limit q left tries p)))
 
 not-misses : (p : ScanPosition) (left : ℕ) → misses p left ≡ false → p .station < 23
@@ -52,7 +53,7 @@ module _ (limit : ℕ) (from p : ScanPosition) (left tries rest : ℕ) (some : 1
   slowest-scan : TriesOk limit Scan tries → PositionOk Scan from p → left ≤ positions p
       → (m : Bool) → misses p left ≡ m
       → (ranOff (afterAnswer (not m) p) && not
-      (eqb (leftAfter (not m) left) 0) ≡ false) × Progress true limit Scan from p left tries rest (not m)
+      (eqb (leftAfter Scan (not m) left) 0) ≡ false) × Progress true limit Scan from p left tries rest (not m)
   unfolding triesAfter positionAfter
   slowest-scan ht hp room true e =
       let c = does-miss p left e in
@@ -84,16 +85,17 @@ module _ (limit : ℕ) (from p : ScanPosition) (left tries rest : ℕ) (some : 1
   pub slowest-at : (q : QMode) → TriesOk limit q tries → PositionOk q from p → Room true q p left
       → Slowest limit q from p left tries rest
   unfolding slowestQ leaves
-  slowest-at Stop ht hp room = record { unspent = refl; stays = refl; answers-q = refl; progress = stop-done limit from p left tries rest some true hp }
-  slowest-at Ignore ht hp room = record { unspent = refl; stays = refl; answers-q = refl; progress = ignore-done limit from p left tries rest some true hp }
+  slowest-at Stop ht hp room = record { unspent = refl; stays = refl; answers-q = λ b. refl; closes-none = λ b. refl; progress = stop-done limit from p left tries rest some true hp }
+  slowest-at Ignore ht hp room = record { unspent = refl; stays = refl; answers-q = λ b. refl; closes-none = λ b. refl; progress = ignore-done limit from p left tries rest some true hp }
   slowest-at Repeat ht hp room =
       let x = slowest-repeat ht hp (eqb (tries + 1) limit) refl in
-      record { unspent = x .0; stays = refl; answers-q = refl; progress = x .1 }
+      record { unspent = x .0; stays = refl; answers-q = λ b. refl; closes-none = λ b. refl; progress = x .1 }
   slowest-at Scan ht hp room =
       let x = slowest-scan ht hp room (misses p left) refl in
       record {
         unspent = refl;
         stays = rw (and-true (not (misses p left))) (x .0);
-        answers-q = refl;
+        answers-q = λ b. refl;
+        closes-none = λ b. refl;
         progress = rw (and-true (not (misses p left))) (x .1);
       }

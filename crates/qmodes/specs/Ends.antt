@@ -18,8 +18,8 @@ use Rattle.qmodes.specs.declared.scan.ScanPosition.{ScanPosition}
 unfoldable pub over : ℕ → QMode → List Answer → ScanPosition → ℕ → ℕ → Bool
 over limit q [] p left tries = false
 over limit q (a ∷ answers) p left tries =
-    eqb (leftAfter (done q a) left) 0 || (spent limit q a tries || (scanLeaves q a p left
-    || over limit q answers (positionAfter q (done q a) p) (leftAfter (done q a) left) (triesAfter q (done q a) tries)))
+    eqb (leftAfter q (done q a) left) 0 || (spent limit q a tries || (scanLeaves q a p left
+    || over limit q answers (positionAfter q (done q a) p) (leftAfter q (done q a) left) (triesAfter q (done q a) tries)))
 
 -- "scan min(P, n − 1 + S)": n words from N, A, with N at most 23
 abbrev pub ScanEnds : Type 0

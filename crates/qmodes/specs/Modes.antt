@@ -21,16 +21,24 @@ isScan Scan = true
 
 -- When a word is done ----------------------------------------------------------------------------------------------------
 
--- "a word is done in stop and ignore; in repeat if Q = 1; in scan if Q = X = 1". In stop Q = 0 ends the run, so that a word is done
--- there if Q = 1.
+-- "a word is done in stop and ignore; in repeat if Q = 1; in scan if Q = X = 1". In stop Q = 0 ends the run or closes the block, so that a
+-- word is done there if Q = 1.
 abbrev pub done : QMode → Answer → Bool
 done Stop a = a .q
 done Ignore a = true
 done Repeat a = a .q
 done Scan a = a .q && a .x
 
-abbrev pub leftAfter : Bool → ℕ → ℕ
-leftAfter isDone left = if isDone then left - 1 else left
+-- "A word not done is tried again"; a stop block "finishes without moving that word" (document 02, E8), so that none is left of it. A single
+-- or inline word not done in stop is a cause: nothing looks at the value for it.
+abbrev pub leftUndone : QMode → ℕ → ℕ
+leftUndone Stop left = 0
+leftUndone Ignore left = left
+leftUndone Repeat left = left
+leftUndone Scan left = left
+
+abbrev pub leftAfter : QMode → Bool → ℕ → ℕ
+leftAfter q isDone left = if isDone then left - 1 else leftUndone q left
 
 -- Which answers end the run ------------------------------------------------------------------------------------------------
 
@@ -48,7 +56,7 @@ ranOff RanOff = true
 -- "A scan's leaving is judged from Q, X and the words left, other causes aside"; "If n words are done, nothing was left, whatever the
 -- next address"
 unfoldable pub leaves : Answer → ScanPosition → ℕ → Bool
-leaves a p left = ranOff (afterAnswer (done Scan a) p) && not (eqb (leftAfter (done Scan a) left) 0)
+leaves a p left = ranOff (afterAnswer (done Scan a) p) && not (eqb (leftAfter Scan (done Scan a) left) 0)
 
 -- "scan leaving station 23"
 abbrev pub scanLeaves : QMode → Answer → ScanPosition → ℕ → Bool
@@ -64,12 +72,19 @@ noX Ignore ad a = not (a .x) && not ad
 noX Repeat ad a = not (a .x) && not ad
 noX Scan ad a = false
 
--- "Q = 0 in stop"
-abbrev pub noQInStop : QMode → Answer → Bool
-noQInStop Stop a = not (a .q)
-noQInStop Ignore a = false
-noQInStop Repeat a = false
-noQInStop Scan a = false
+-- "Q = 0 in stop", where "Singles and inline writes still end with 7" (E8)
+abbrev pub noQInStop : QMode → Bool → Answer → Bool
+noQInStop Stop isBlock a = not (a .q) && not isBlock
+noQInStop Ignore isBlock a = false
+noQInStop Repeat isBlock a = false
+noQInStop Scan isBlock a = false
+
+-- "Q = 0 closes a block" (E8): in stop, "unless another cause ends it"
+abbrev pub closes : QMode → Bool → Answer → Bool
+closes Stop isBlock a = not (a .q) && isBlock
+closes Ignore isBlock a = false
+closes Repeat isBlock a = false
+closes Scan isBlock a = false
 
 -- What changes after an answer ---------------------------------------------------------------------------------------------
 

@@ -11,6 +11,7 @@ pub use modes::is_done;
 pub use modes::is_leaving;
 pub use modes::is_scan;
 pub use modes::is_spent;
+pub use modes::left_after;
 pub use modes::most_left;
 pub use modes::place_after_wait;
 pub use modes::place_after_words;

@@ -5,7 +5,7 @@ ghost use mathlib.Core.Path.{_≡_};
 ghost use Prim.Native.Nat.{_+_, _-_, _*_, _^_, _<_, _≤_, min};
 ghost use Rattle.qmodes.specs.Scan.{stations, positions};
 ghost use lib.Dec.{leb};
-ghost use Rattle.qmodes.specs.Modes.{worstWords, isScan, done, leaves, spent, scanLeaves, noX, noQInStop, triesAfter, positionAfter, mostLeft, triesFit, samePosition, positionFits};
+ghost use Rattle.qmodes.specs.Modes.{worstWords, isScan, done, leftAfter, leaves, spent, scanLeaves, noX, noQInStop, triesAfter, positionAfter, mostLeft, triesFit, samePosition, positionFits};
 ghost use Rattle.base.specs.Checks.{if_then_else_};
 ghost use Rattle.qmodes.specs.model.Answers.{wordFlags, waitFlags, canWait, wordsAhead, placeAfterWords, placeAfterWait};
 
@@ -81,20 +81,13 @@ pub fn scan_leaves(q: QMode, a: Answer, p: ScanPosition, left: usize) -> bool
 
 // Whether this was the last try of a word in repeat. That a repeat ends: specs/Ends.
 pub fn is_spent(limit: usize, q: QMode, a: Answer, tries: usize) -> bool
+    requires { ⌜ tries < 2 ^ 16 ⌝ }
     ensures { λ r. ⌜ r ≡ spent limit q a tries ⌝ }
 {
     match q {
         QMode::Stop => false,
         QMode::Ignore => false,
-        QMode::Repeat => {
-            if a.q {
-                return false;
-            }
-            if limit == 0 {
-                return false;
-            }
-            tries == limit - 1
-        }
+        QMode::Repeat => !a.q & (tries + 1 == limit),
         QMode::Scan => false,
     }
 }
@@ -110,14 +103,30 @@ pub fn has_no_x(q: QMode, ad: bool, a: Answer) -> bool
     }
 }
 
-pub fn has_no_q(q: QMode, a: Answer) -> bool
-    ensures { λ r. ⌜ r ≡ noQInStop q a ⌝ }
+pub fn has_no_q(q: QMode, block: bool, a: Answer) -> bool
+    ensures { λ r. ⌜ r ≡ noQInStop q block a ⌝ }
 {
     match q {
-        QMode::Stop => !a.q,
+        QMode::Stop => !a.q && !block,
         QMode::Ignore => false,
         QMode::Repeat => false,
         QMode::Scan => false,
+    }
+}
+
+// A waiting instruction has words left.
+pub fn left_after(q: QMode, moves: bool, left: usize) -> usize
+    requires { ⌜ 1 ≤ left ⌝ }
+    ensures { λ r. ⌜ r ≡ leftAfter q moves left ⌝ }
+{
+    if moves {
+        return left - 1;
+    }
+    match q {
+        QMode::Stop => 0,
+        QMode::Ignore => left,
+        QMode::Repeat => left,
+        QMode::Scan => left,
     }
 }
 

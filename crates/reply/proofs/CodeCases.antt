@@ -1,7 +1,7 @@
 -- The causes stand from the greatest code on, so that the first that holds is the code of an answer; every cause has a code from 1 to 13.
 -- A scan that leaves has no smaller cause beside it but a damaged command, so that without one 9 as the greatest code is the only cause.
 use Prim.Native.Nat.{ℕ, _≤_, _<_, max}
-use mathlib.Core.Path.{_≡_, refl, sym, ap, _∙_}
+use mathlib.Core.Path.{_≡_, refl, sym, _∙_}
 use mathlib.Core.Bool.{Bool, true, false, _&&_, not, and-false}
 use borrow.Author.Tests.{ne-eqb}
 use mathlib.Core.List.{List, [], _∷_}
@@ -10,7 +10,7 @@ use native.Mathlib.Nat.{max-le, le-max-left}
 use lib.Dec.{eqb}
 use Rattle.base.specs.Checks.{if_then_else_, Check, _gives_, firstOf}
 use Rattle.base.proofs.Checks.{Numbered, FirstAt, numberAt, first-at}
-use Rattle.camac.specs.Words.{qmodeOf}
+use Rattle.camac.specs.Words.{qmodeOf, isBlock}
 use Rattle.qmodes.specs.declared.modes.QMode.{QMode}
 use Rattle.qmodes.specs.declared.modes.QMode.the-variants.{Stop, Ignore, Repeat, Scan}
 use Rattle.camac.specs.declared.words.Command.{Command}
@@ -63,7 +63,7 @@ unfolding codeOf causesOf causeChecks
 code-small limit c r NoSync = omega arith
 code-small limit c r NotRecognised = omega arith
 code-small limit c r Timeout = omega arith
-code-small limit c r (Answered a) = greatest-below 13 (causeChecks limit (qmodeOf (c .transfer)) (c .ad) r a) (omega arith)
+code-small limit c r (Answered a) = greatest-below 13 (causeChecks limit (qmodeOf (c .transfer)) (isBlock (c .transfer)) (c .ad) r a) (omega arith)
 
 pub code-below : (limit : ℕ) (c : Command) (r : Record) (reply : Reply) (x : ℕ) → x ≡ codeOf limit c r reply → x ≤ 13
 code-below limit c r reply x e = omega (arith, code-small limit c r reply)
@@ -94,19 +94,20 @@ cause-numbered limit c r reply {code} {codes} e = omega (arith, first reply e, l
     first NoSync e = let same : 13 ≡ code = cc in omega arith
     first NotRecognised e = let same : 12 ≡ code = cc in omega arith
     first Timeout e = let same : 11 ≡ code = cc in omega arith
-    first (Answered a) e = first-numbered (causeChecks limit (qmodeOf (c .transfer)) (c .ad) r a) (omega arith) e
+    first (Answered a) e = first-numbered (causeChecks limit (qmodeOf (c .transfer)) (isBlock (c .transfer)) (c .ad) r a) (omega arith) e
 
 -- The code of an answer --------------------------------------------------------------------------------------------------
 
 -- where the causes before place k fail and the one there holds, its number is the code
 pub code-at :
-    (limit : ℕ) (c : Command) (r : Record) (a : Answer) (q : QMode) → q ≡ qmodeOf (c .transfer) → (k : ℕ)
-    → FirstAt k (causeChecks limit q (c .ad) r a) → numberAt k (causeChecks limit q (c .ad) r a) ≡ codeOf limit c r (Answered a)
+    (limit : ℕ) (c : Command) (r : Record) (a : Answer) (q : QMode) (block : Bool)
+    → q ≡ qmodeOf (c .transfer) → block ≡ isBlock (c .transfer) → (k : ℕ)
+    → FirstAt k (causeChecks limit q block (c .ad) r a) → numberAt k (causeChecks limit q block (c .ad) r a) ≡ codeOf limit c r (Answered a)
 unfolding codeOf causesOf causeChecks
-code-at limit c r a q e k h =
-    sym (first-at k (causeChecks limit q (c .ad) r a) h)
-    ∙ (sym (greatest-first (causeChecks limit q (c .ad) r a) (omega arith))
-    ∙ ap (λ (x : QMode). greatest (allThatHold (causeChecks limit x (c .ad) r a))) e)
+code-at limit c r a q block e b k h =
+    sym (first-at k (causeChecks limit q block (c .ad) r a) h)
+    ∙ (sym (greatest-first (causeChecks limit q block (c .ad) r a) (omega arith))
+    ∙ rw (e, b))
 
 -- an answer that is no cause
 pub record NoCause (limit : ℕ) (c : Command) (r : Record) (a : Answer) : Type 0 where
@@ -114,7 +115,7 @@ pub record NoCause (limit : ℕ) (c : Command) (r : Record) (a : Answer) : Type 
   pub parity : parityError (c .ad) a ≡ false
   pub stays : scanLeaves (qmodeOf (c .transfer)) a (r .position) (r .left) ≡ false
   pub x : noX (qmodeOf (c .transfer)) (c .ad) a ≡ false
-  pub q : noQInStop (qmodeOf (c .transfer)) a ≡ false
+  pub q : noQInStop (qmodeOf (c .transfer)) (isBlock (c .transfer)) a ≡ false
   pub undamaged : damaged (c .ad) a ≡ false
 
 pub no-causes : {limit : ℕ} {c : Command} {r : Record} {a : Answer} → NoCause limit c r a → causesOf limit c r (Answered a) ≡ []
@@ -156,11 +157,12 @@ leaving-no-x Ignore ad a p left h = absurd (true-not-false (sym h))
 leaving-no-x Repeat ad a p left h = absurd (true-not-false (sym h))
 leaving-no-x Scan ad a p left h = refl
 
-leaving-no-q : (q : QMode) (a : Answer) (p : ScanPosition) (left : ℕ) → scanLeaves q a p left ≡ true → noQInStop q a ≡ false
-leaving-no-q Stop a p left h = absurd (true-not-false (sym h))
-leaving-no-q Ignore a p left h = refl
-leaving-no-q Repeat a p left h = refl
-leaving-no-q Scan a p left h = refl
+leaving-no-q : (q : QMode) (block : Bool) (a : Answer) (p : ScanPosition) (left : ℕ)
+    → scanLeaves q a p left ≡ true → noQInStop q block a ≡ false
+leaving-no-q Stop block a p left h = absurd (true-not-false (sym h))
+leaving-no-q Ignore block a p left h = refl
+leaving-no-q Repeat block a p left h = refl
+leaving-no-q Scan block a p left h = refl
 
 -- "with 9 as the only cause" is 9 as the greatest code of a command that is not damaged
 pub only-nine :
@@ -173,7 +175,7 @@ only-nine limit c r a =
     (parityError (c .ad) a)
     (scanLeaves (qmodeOf (c .transfer)) a (r .position) (r .left))
     (noX (qmodeOf (c .transfer)) (c .ad) a)
-    (noQInStop (qmodeOf (c .transfer)) a)
+    (noQInStop (qmodeOf (c .transfer)) (isBlock (c .transfer)) a)
     (damaged (c .ad) a)
     (leaving-no-x (qmodeOf (c .transfer)) (c .ad) a (r .position) (r .left))
-    (leaving-no-q (qmodeOf (c .transfer)) a (r .position) (r .left))
+    (leaving-no-q (qmodeOf (c .transfer)) (isBlock (c .transfer)) a (r .position) (r .left))

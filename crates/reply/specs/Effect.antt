@@ -193,11 +193,12 @@ waiting left tries p r = record {
   note = r .note;
 }
 
--- no cause: the word, if done, is moved; "After word n the next instruction follows"
+-- no cause: the word, if done, is moved; "After word n the next instruction follows", and after a block that is closed: it "continues at the
+-- marks reached, padding from there" (E8)
 unfoldable pub goOn : List Visit → Command → Bool → ℕ → State → State
 goOn rest c isDone word s =
     let s₁ : State = if isDone then moveWord c word s else s in
-    let left : ℕ = leftAfter isDone (s .run .left) in
+    let left : ℕ = leftAfter (qmodeOf (c .transfer)) isDone (s .run .left) in
     if eqb left 0 then runOn rest s₁
     else withRun (waiting left (triesAfter (qmodeOf (c .transfer)) isDone (s .run .tries)) (positionAfter (qmodeOf (c .transfer)) isDone (s .run .position)) (s₁ .run)) s₁
 

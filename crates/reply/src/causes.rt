@@ -5,6 +5,7 @@ use camac::Command;
 use qmodes::Answer;
 use qmodes::QMode;
 ghost use mathlib.Core.Path.{_≡_};
+ghost use Prim.Native.Nat.{_^_, _<_};
 ghost use Rattle.reply.specs.Causes.{doneBy, parityError, damaged, causesOf, codeOf, onlyNine};
 
 pub fn done_by(q: QMode, reply: Reply) -> bool
@@ -30,8 +31,9 @@ fn is_damaged(ad: bool, a: Answer) -> bool
     (a.err & a.x) & !ad
 }
 
-// The code of an answer: its greatest cause, 0 where there is none.
+// The code of an answer: its greatest cause, 0 where there is none. Tries stay below R, and R below 2^16.
 fn answer_code(limit: usize, c: Command, r: Record, a: Answer) -> u32
+    requires { ⌜ r .tries < 2 ^ 16 ⌝ }
     ensures { λ x. ⌜ x ≡ codeOf limit c r (Reply.Answered a) ⌝ }
 {
     let t = c.transfer;
@@ -49,7 +51,7 @@ fn answer_code(limit: usize, c: Command, r: Record, a: Answer) -> u32
     if qmodes::has_no_x(q, ad, a) {
         return 8;
     }
-    if qmodes::has_no_q(q, a) {
+    if qmodes::has_no_q(q, camac::is_block_of(t), a) {
         return 7;
     }
     if is_damaged(ad, a) {
@@ -59,6 +61,7 @@ fn answer_code(limit: usize, c: Command, r: Record, a: Answer) -> u32
 }
 
 pub fn code_of(limit: usize, c: Command, r: Record, reply: Reply) -> u32
+    requires { ⌜ r .tries < 2 ^ 16 ⌝ }
     ensures { λ x. ⌜ x ≡ codeOf limit c r reply ⌝ }
 {
     match reply {

@@ -145,7 +145,7 @@ pub fn with_marks(m: Marks, r: Record) -> Record
 
 // A reply counted. No run makes 2^63 operations: W is below.
 pub fn counted_record(limit: usize, c: Command, reply: Reply, r: Record) -> Record
-    requires { ⌜ r .operations < 2 ^ 63 ⌝ }
+    requires { ⌜ (r .operations < 2 ^ 63) × (r .tries < 2 ^ 16) ⌝ }
     ensures { λ x. ⌜ x ≡ counted limit c reply r ⌝ }
 {
     let spot = r.spot;

@@ -4,6 +4,7 @@ use crate::replies::Reply;
 use camac::Command;
 use qmodes::Answer;
 ghost use mathlib.Core.Path.{_≡_};
+ghost use Prim.Native.Nat.{_^_, _<_};
 ghost use mathlib.Core.Bool.{_||_};
 ghost use Rattle.base.specs.Checks.{if_then_else_};
 ghost use Rattle.reply.specs.Status.{flagsOf};
@@ -51,8 +52,9 @@ fn has_error(a: Answer) -> bool
     a.tpe | (a.lpe | a.err)
 }
 
-// The status bits of an answer.
+// The status bits of an answer. Tries stay below R, and R below 2^16.
 fn answer_flags(limit: usize, c: Command, r: Record, a: Answer) -> u32
+    requires { ⌜ r .tries < 2 ^ 16 ⌝ }
     ensures { λ x. ⌜ x ≡ flagsOf limit c r (Reply.Answered a) ⌝ }
 {
     let t = c.transfer;
@@ -68,6 +70,7 @@ fn answer_flags(limit: usize, c: Command, r: Record, a: Answer) -> u32
 }
 
 pub fn flags_of(limit: usize, c: Command, r: Record, reply: Reply) -> u32
+    requires { ⌜ r .tries < 2 ^ 16 ⌝ }
     ensures { λ x. ⌜ x ≡ flagsOf limit c r reply ⌝ }
 {
     match reply {

@@ -2,7 +2,7 @@
 -- word but passes the mask of waits is no cause either.
 use Prim.Native.Nat.{ℕ, _%_, _<_}
 use mathlib.Core.Path.{_≡_, refl}
-use mathlib.Core.Bool.{Bool, true, false, _&&_, not, false≢true}
+use mathlib.Core.Bool.{Bool, true, false, _&&_, not, false≢true, and-false}
 use borrow.Author.Tests.{not-true}
 use lib.Bits.{bitAnd}
 use lib.Dec.{eqb}
@@ -10,6 +10,7 @@ use Rattle.base.specs.Checks.{if_then_else_}
 use Rattle.base.proofs.Bools.{and-left, and-right}
 use Rattle.qmodes.specs.Modes.{done, noX, noQInStop}
 use Rattle.qmodes.specs.model.Answers.{wordFlags, waitFlags, canWait}
+use Rattle.qmodes.specs.declared.modes.Answer.{Answer}
 use Rattle.qmodes.specs.declared.modes.QMode.{QMode}
 use Rattle.qmodes.specs.declared.modes.QMode.the-variants.{Stop, Ignore, Repeat, Scan}
 use Rattle.reply.specs.Causes.{parityError, damaged}
@@ -20,19 +21,27 @@ under : (b x : Bool) → b ≡ true → (if b then x else true) ≡ true → x �
 under true x h e = e
 under false x h e = absurd (false≢true h)
 
+-- an answer that does not end a single in stop does not end a block
+any-block : (q : QMode) (a : Answer) → noQInStop q false a ≡ false → (block : Bool) → noQInStop q block a ≡ false
+any-block q a e false = e
+any-block Stop a e true = and-false (not (a .q))
+any-block Ignore a e true = refl
+any-block Repeat a e true = refl
+any-block Scan a e true = refl
+
 -- whatever the data
 module _ (word : ℕ) where
   -- the flags are no cause
   pub record Fine (q : QMode) (ad : Bool) (f : ℕ) : Type 0 where
     pub parity : parityError ad (answerBy f word) ≡ false
     pub x : noX q ad (answerBy f word) ≡ false
-    pub q-set : noQInStop q (answerBy f word) ≡ false
+    pub q-set : (block : Bool) → noQInStop q block (answerBy f word) ≡ false
     pub undamaged : damaged ad (answerBy f word) ≡ false
 
   abbrev fine : QMode → Bool → ℕ → Bool
   fine q ad f =
       not (parityError ad (answerBy f word))
-      && (not (noX q ad (answerBy f word)) && (not (noQInStop q (answerBy f word)) && not (damaged ad (answerBy f word))))
+      && (not (noX q ad (answerBy f word)) && (not (noQInStop q false (answerBy f word)) && not (damaged ad (answerBy f word))))
 
   fine-all : (q : QMode) (ad : Bool) (f : ℕ) → fine q ad f ≡ true → Fine q ad f
   fine-all q ad f all =
@@ -41,8 +50,8 @@ module _ (word : ℕ) where
       record {
         parity = not-true _ (and-left _ _ all);
         x = not-true _ (and-left _ _ rest);
-        q-set = not-true _ (and-left _ _ last);
-        undamaged = not-true _ (and-right (not (noQInStop q (answerBy f word))) _ last);
+        q-set = any-block q (answerBy f word) (not-true _ (and-left _ _ last));
+        undamaged = not-true _ (and-right (not (noQInStop q false (answerBy f word))) _ last);
       }
 
   -- Words ----------------------------------------------------------------------------------------------------------------

@@ -27,7 +27,7 @@ use Rattle.reply.specs.declared.records.Record.{Record}
 use Rattle.reply.specs.declared.replies.Reply.{Reply}
 use Rattle.worst_count.specs.WorstCount.{WaitsAt}
 use Rattle.worst_count.proofs.Live.{Live, waits-once, fits-live, live-waits}
-use Rattle.worst_count.proofs.Move.{last-room}
+use Rattle.worst_count.proofs.Move.{rest-room}
 use Rattle.worst_count.proofs.RunOn.{lastMarks}
 use Rattle.worst_count.proofs.Admitted.{SoundPlan, prepared-plan, prepared-sound, prepared-room}
 use Rattle.worst_count.proofs.FitKept.{FitNumbers, fits-numbers}
@@ -122,10 +122,10 @@ module _ (list table : List ℕ) (s : Sizes) (counts : Counts) (i o : ℕ) (x : 
         outgoing = omega (arith, outgoing-most);
       }
 
-      -- behind its last word it has room for the rest of the walk
-      pub going-next : (r′ : Record) (b : List ℕ) → r .left ≡ 1 → r′ .marks ≡ moved c (r .marks) → length b ≡ i
+      -- behind it, its last word moved or its block closed, it has room for the rest of the walk
+      pub going-next : (r′ : Record) (b : List ℕ) → (r′ .marks ≡ moved c (r .marks)) ⊎ (r′ .marks ≡ r .marks) → length b ≡ i
           → Going list (s .count) (spotAfter (r .spot)) r′ b
-      going-next r′ b one em e = record { on = on-next .0; room = omega (arith, ap (λ (m : Marks). m .incoming) whole, below-last .incoming, marks-most .0, e) }
+      going-next r′ b em e = record { on = on-next .0; room = omega (arith, ap (λ (m : Marks). m .incoming) whole, below-last .incoming, marks-most .0, e) }
         where
           l : Live false plan r
           l = fits-live plan r h
@@ -133,13 +133,13 @@ module _ (list table : List ℕ) (s : Sizes) (counts : Counts) (i o : ℕ) (x : 
           same : (l .command ≡ c) × (l .post ≡ rest)
           same = waits-once (live-waits false plan r (sound .distinct) l) w
 
-          below-last : BelowMarks (marksOver (l .post) (moved (l .command) (r .marks))) (lastMarks plan)
-          below-last = last-room plan r l one
+          below-last : BelowMarks (marksOver (l .post) (r′ .marks)) (lastMarks plan)
+          below-last =
+              rest-room false plan r l (r′ .marks)
+              (subst (λ (d : Command). (r′ .marks ≡ moved d (r .marks)) ⊎ (r′ .marks ≡ r .marks)) (sym (same .0)) em)
 
-          whole : marksOver (restFrom list (s .count) (spotAfter (r .spot))) (r′ .marks) ≡ marksOver (l .post) (moved (l .command) (r .marks))
-          whole =
-              ap (marksOver (restFrom list (s .count) (spotAfter (r .spot)))) (em ∙ ap (λ (d : Command). moved d (r .marks)) (sym (same .0)))
-              ∙ ap (λ (vs : List Visit). marksOver vs (moved (l .command) (r .marks))) (on-next .1 ∙ sym (same .1))
+          whole : marksOver (restFrom list (s .count) (spotAfter (r .spot))) (r′ .marks) ≡ marksOver (l .post) (r′ .marks)
+          whole = ap (λ (vs : List Visit). marksOver vs (r′ .marks)) (on-next .1 ∙ sym (same .1))
 
   -- The operation wanted -------------------------------------------------------------------------------------------------
 

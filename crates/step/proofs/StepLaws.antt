@@ -1,5 +1,5 @@
--- What start and step yield, in the order of the code's tests: each refusal, and the reply taken at the operation with the walk behind its
--- last word. A record that is left has ended or fits, so that its wanted operation is the table's.
+-- What start and step yield, in the order of the code's tests: each refusal, and the reply taken at the operation with the walk behind it
+-- where it is through. A record that is left has ended or fits, so that its wanted operation is the table's.
 use Prim.Native.Nat.{ℕ, _+_}
 use mathlib.Core.Path.{_≡_, refl, sym, ap, ap₂, _∙_, subst}
 use mathlib.Core.Logic.{_⊎_}
@@ -32,7 +32,7 @@ use Rattle.take.specs.declared.Taken.{Taken}
 use Rattle.take.specs.declared.Taken.the-variants.{Same, Through, Ended}
 use Rattle.take.proofs.TakeHere.{take-here, through}
 use Rattle.walk.specs.declared.visits.Spot.{Spot}
-use Rattle.worst_count.proofs.FitKept.{FitKept, fits-numbers, fit-begun, fit-kept}
+use Rattle.worst_count.proofs.FitKept.{FitKept, fit-begun, fit-kept}
 use Rattle.step.specs.model.Onward.{PreparedFor, Going, recordIn, GoingBy, Askable, wantedBy}
 use Rattle.step.specs.model.Place.{Alive}
 use Rattle.step.proofs.PlanLaws.{sound, taken-at, ready-here, going-next, askable, wanted-by}
@@ -41,13 +41,13 @@ use Rattle.step.proofs.PlanLaws.{sound, taken-at, ready-here, going-nex
 
 module _ (list table : List ℕ) (s : Sizes) (counts : Counts) (i o : ℕ) (x : PreparedFor list table s counts i o) (r : Record) (c : Command)
     (a : Alive (planBy list s) c r) (reply : Reply) where
-  -- behind the last word it has room for the rest of the walk
+  -- where it is through it has room for the rest of the walk
   pub taken-going : (t : Taken) (b : List ℕ) → t ≡ hereRun (s .limit) c reply r → length b ≡ i → GoingBy list (s .count) t b
   taken-going (Same y) b e n = tt
   taken-going (Through y) b e n =
       let p = through (s .limit) c reply r y (sym e) in
       subst (λ (k : Spot). Going list (s .count) (spotAfter k) y b) (sym (p .spot))
-      (going-next list table s counts i o x r c (a .rest) (a .waits) (a .fit) y b (p .last) (p .marks) n)
+      (going-next list table s counts i o x r c (a .rest) (a .waits) (a .fit) y b (p .marks) n)
   taken-going (Ended y) b e n = tt
 
   -- where the next instruction is asked for, it is the one behind
@@ -63,7 +63,6 @@ module _ (list table : List ℕ) (s : Sizes) (counts : Counts) (i o : ℕ) (x : 
   taken-resumed incoming t b out et eb =
       taken-at list table s counts i o x r c (a .rest) (a .waits) reply incoming out
       ∙ take-here (s .limit) (restFrom list (s .count) (spotAfter (r .spot))) c reply r incoming out
-      (fits-numbers (planBy list s) (sound list table s counts i o x) r (a .fit) (a .waits) .left-least)
       ∙ ap₂ (λ (y : Taken) (l : List ℕ). resumed (restFrom list (s .count) (spotAfter (r .spot))) y l out) (sym et) (sym eb)
       ∙ same-rest t b out et
 

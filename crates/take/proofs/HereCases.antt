@@ -1,10 +1,15 @@
--- The room for a word and its bytes, by the direction of its instruction; a counted reply leaves the marks.
+-- The room for a word and its bytes, by the direction of its instruction; a counted reply leaves the marks. Without a cause the words left say
+-- whether the operation waits on or is through.
 use Prim.Native.Nat.{ℕ, _^_, _≤_, _<_}
 use mathlib.Core.Path.{_≡_, refl, sym, ap, _∙_, subst}
 use mathlib.Core.Bool.{Bool}
 use mathlib.Core.List.{List}
 use native.Mathlib.Omega.{arith}
-use Rattle.camac.specs.Words.{directionOf}
+use borrow.Author.Tests.{eq-eqb, ne-eqb}
+use Rattle.qmodes.specs.Modes.{leftAfter, triesAfter, positionAfter}
+use Rattle.qmodes.specs.declared.modes.QMode.{QMode}
+use Rattle.qmodes.specs.declared.scan.ScanPosition.{ScanPosition}
+use Rattle.camac.specs.Words.{directionOf, qmodeOf}
 use Rattle.camac.specs.declared.words.Command.{Command}
 use Rattle.camac.specs.declared.words.Direction.{Direction}
 use Rattle.camac.specs.declared.words.Direction.the-variants.{Incoming, Outgoing, Neither}
@@ -12,8 +17,9 @@ use Rattle.packing.specs.Packing.{markAfter, stored}
 use Rattle.packing.specs.declared.Marks.{Marks}
 use Rattle.packing.proofs.MarkFacts.{mark-grows}
 use Rattle.walk.specs.Walk.{movedBy, moved}
-use Rattle.reply.specs.Effect.{movedBytes, counted}
-use Rattle.take.specs.model.Here.{incomingAfter}
+use Rattle.reply.specs.Effect.{movedBytes, counted, waiting}
+use Rattle.take.specs.model.Here.{incomingAfter, movedIf, onRun}
+use Rattle.take.specs.declared.Taken.the-variants.{Same, Through}
 use Rattle.reply.specs.declared.replies.Reply.{Reply}
 use Rattle.reply.specs.declared.records.Record.{Record}
 
@@ -68,3 +74,19 @@ pub marks-small : (c : Command) (m a : Marks) (n : ℕ) → a ≡ m → moved c 
     → (a .incoming < 2 ^ 63) × (a .outgoing < 2 ^ 63)
 marks-small c m a n e h k o =
     (omega (arith, ap (λ (x : Marks). x .incoming) e, mark-within c m n h), omega (arith, ap (λ (x : Marks). x .outgoing) e))
+
+-- Without a cause --------------------------------------------------------------------------------------------------------
+
+module _ (c : Command) (before r : Record) {x : Record} {q : QMode} {left : ℕ} {d e : Bool} (same : d ≡ e) (eq : q ≡ qmodeOf (c .transfer))
+    (el : left ≡ leftAfter q e (before .left)) (ex : x ≡ movedIf e c r) where
+  pub is-through : left ≡ 0 → Through x ≡ onRun c d before r
+  unfolding onRun
+  is-through z =
+      let none : leftAfter (qmodeOf (c .transfer)) e (before .left) ≡ 0 = rw (← eq) (sym el ∙ z) in rw (same, eq-eqb _ _ none, ex)
+
+  pub is-same : {tries : ℕ} {p : ScanPosition} → tries ≡ triesAfter q e (before .tries) → p ≡ positionAfter q e (before .position)
+      → (left ≡ 0 → ⊥) → Same (waiting left tries p x) ≡ onRun c d before r
+  unfolding onRun
+  is-same et ep more =
+      let some : leftAfter (qmodeOf (c .transfer)) e (before .left) ≡ 0 → ⊥ = λ z. more (el ∙ rw eq z) in
+      rw (same, ne-eqb _ _ some, el, et, ep, ex, eq)

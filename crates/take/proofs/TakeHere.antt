@@ -1,13 +1,15 @@
--- A reply taken is what happens at its operation and then, behind the last word, the rest of the walk. The row of causes is empty,
+-- A reply taken is what happens at its operation and then, where it is through, the rest of the walk. The row of causes is empty,
 -- or its greatest code ends the run.
-use Prim.Native.Nat.{ℕ, _-_, _≤_}
-use mathlib.Core.Path.{_≡_, refl, sym, ap}
+use Prim.Native.Nat.{ℕ, _-_}
+use mathlib.Core.Path.{_≡_, refl, ap}
+use mathlib.Core.Logic.{_⊎_, inl, inr}
 use mathlib.Core.Bool.{Bool, true, false, _&&_}
 use mathlib.Core.List.{List, [], _∷_}
 use native.Mathlib.Omega.{arith}
-use borrow.Author.Tests.{eq-eqb, ne-eqb, eqb-true, eqb-false}
+use borrow.Author.Tests.{ne-eqb}
 use lib.Dec.{eqb}
 use Rattle.base.specs.Checks.{if_then_else_}
+use Rattle.qmodes.specs.Modes.{leftUndone, leftAfter}
 use Rattle.camac.specs.Words.{qmodeOf}
 use Rattle.camac.specs.declared.words.Command.{Command}
 use Rattle.walk.specs.Walk.{Visit, moved}
@@ -20,8 +22,7 @@ use Rattle.reply.specs.declared.records.Record.{Record}
 use Rattle.base.proofs.Tests.{on}
 use Rattle.reply.proofs.CodeCases.{cause-numbered}
 
-module _ (limit : ℕ) (rest : List Visit) (c : Command) (reply : Reply) (r : Record) (incoming outgoing : List ℕ)
-    (some : 1 ≤ r .left) where
+module _ (limit : ℕ) (rest : List Visit) (c : Command) (reply : Reply) (r : Record) (incoming outgoing : List ℕ) where
   abbrev counting : State
   counting = stateOf (counted limit c reply r) incoming outgoing
 
@@ -30,11 +31,8 @@ module _ (limit : ℕ) (rest : List Visit) (c : Command) (reply : Reply) (r : Re
       → goOn rest c x word counting
       ≡ resumed rest (onRun c x r (counted limit c reply r)) (bytesIf x c word (r .marks .incoming) incoming) outgoing
   unfolding goOn onRun counted moveWord
-  goes-on word true =
-      on (eqb (r .left) 1)
-      (λ e. rw (e, eq-eqb (r .left - 1) 0 (omega (arith, eqb-true (r .left) 1 e))))
-      (λ e. rw (e, ne-eqb (r .left - 1) 0 (λ q. eqb-false (r .left) 1 e (omega arith))))
-  goes-on word false = rw (ne-eqb (r .left) 0 (λ q. omega arith))
+  goes-on word true = on (eqb (r .left - 1) 0) (λ e. rw e) (λ e. rw e)
+  goes-on word false = on (eqb (leftUndone (qmodeOf (c .transfer)) (r .left)) 0) (λ e. rw e) (λ e. rw e)
 
   ends :
       (code : ℕ) (word : ℕ) (moves : Bool)
@@ -68,10 +66,9 @@ module _ (limit : ℕ) (rest : List Visit) (c : Command) (reply : Reply) (r : Re
   unfolding takeReply
   take-here = by-row (causesOf limit c r reply) refl
 
--- its last word through: the record moved, at the same instruction
+-- through: the record at the same instruction, its last word moved or, where its block is closed, none
 pub record Passed (c : Command) (r r′ : Record) : Type 0 where
-  pub last : r .left ≡ 1
-  pub marks : r′ .marks ≡ moved c (r .marks)
+  pub marks : (r′ .marks ≡ moved c (r .marks)) ⊎ (r′ .marks ≡ r .marks)
   pub spot : r′ .spot ≡ r .spot
 
 pub through : (limit : ℕ) (c : Command) (reply : Reply) (r r′ : Record) → hereRun limit c reply r ≡ Through r′ → Passed c r r′
@@ -81,16 +78,15 @@ through limit c reply r r′ h =
     (λ e. by-done (doneBy (qmodeOf (c .transfer)) reply) (rw e at h))
     (λ e. let x = rw e at h in let z : _≡_ {A = ℕ} 0 1 = cc in absurd (omega arith))
   where
-    is-moved : Through (movedRecord c (counted limit c reply r)) ≡ Through r′ → movedRecord c (counted limit c reply r) ≡ r′
-    is-moved e = cc
+    is-it : (a : Record) → Through a ≡ Through r′ → r′ ≡ a
+    is-it a e = cc
+
+    passed : (x : Bool) → r′ ≡ movedIf x c (counted limit c reply r) → Passed c r r′
+    passed true q = record { marks = inl (ap (λ (x : Record). x .marks) q); spot = ap (λ (x : Record). x .spot) q }
+    passed false q = record { marks = inr (ap (λ (x : Record). x .marks) q); spot = ap (λ (x : Record). x .spot) q }
 
     by-done : (x : Bool) → onRun c x r (counted limit c reply r) ≡ Through r′ → Passed c r r′
-    by-done true h =
-        on (eqb (r .left) 1)
-        (λ e. let q : movedRecord c (counted limit c reply r) ≡ r′ = is-moved (rw e at h) in record {
-          last = eqb-true (r .left) 1 e;
-          marks = ap (λ (x : Record). x .marks) (sym q);
-          spot = ap (λ (x : Record). x .spot) (sym q);
-        })
-        (λ e. let x = rw e at h in let z : _≡_ {A = ℕ} 0 1 = cc in absurd (omega arith))
-    by-done false h = let z : _≡_ {A = ℕ} 0 1 = cc in absurd (omega arith)
+    by-done x h =
+        on (eqb (leftAfter (qmodeOf (c .transfer)) x (r .left)) 0)
+        (λ e. passed x (is-it (movedIf x c (counted limit c reply r)) (rw e at h)))
+        (λ e. let y = rw e at h in let z : _≡_ {A = ℕ} 0 1 = cc in absurd (omega arith))

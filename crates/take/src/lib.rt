@@ -28,7 +28,7 @@ ghost use Rattle.take.specs.model.Here.{Ready, incomingAfter, onRun, mov
 // The first number that a 24-bit word cannot have.
 const WORD_END: u32 = 1 << 24;
 
-// What a reply leaves: the same operation waits on, its last word is through, or the run has ended.
+// What a reply leaves: the same operation waits on, it is through, or the run has ended.
 pub enum Taken {
     Same(Record),
     Through(Record),
@@ -69,7 +69,7 @@ pub fn store_by(c: Command, reply: Reply, mark: usize, buffer: &mut [u8])
     }
 }
 
-// No cause: a done word is moved, and the same operation waits on or its last word is through. `after` is the record with the reply counted.
+// No cause: a done word is moved, and the same operation waits on or is through. `after` is the record with the reply counted.
 fn go_on(
     c: Command,
     done: bool,
@@ -86,15 +86,19 @@ fn go_on(
     let q = camac::qmode_of(t);
     let p = before.position;
     let marks = before.marks;
-    let left = before.left;
     if done {
         store_by(c, reply, marks.incoming, incoming);
         let moved = moved_record(c, after);
-        if left == 1 {
+        let left = qmodes::left_after(q, true, before.left);
+        if left == 0 {
             return Taken::Through(moved);
         }
         let tries = qmodes::tries_after(q, true, before.tries);
-        return Taken::Same(wait_on(left - 1, tries, qmodes::position_after(q, true, p), moved));
+        return Taken::Same(wait_on(left, tries, qmodes::position_after(q, true, p), moved));
+    }
+    let left = qmodes::left_after(q, false, before.left);
+    if left == 0 {
+        return Taken::Through(after);
     }
     let tries = qmodes::tries_after(q, false, before.tries);
     Taken::Same(wait_on(left, tries, qmodes::position_after(q, false, p), after))

@@ -1,4 +1,5 @@
--- Along a walk neither mark falls, and both stay even: that holds of each word that moves a mark, and everything here is made of those.
+-- Along a walk neither mark falls, both stay even, and lower even marks stay below: that holds of each word that moves a mark, and everything
+-- here is made of those.
 use Prim.Native.Nat.{ℕ, zero, suc, _≤_, zero-le}
 use mathlib.Core.Path.{_≡_, refl}
 use mathlib.Core.Bool.{Bool, true}
@@ -11,7 +12,7 @@ use Rattle.camac.specs.declared.words.Direction.{Direction}
 use Rattle.camac.specs.declared.words.Direction.the-variants.{Incoming, Outgoing, Neither}
 use Rattle.packing.specs.declared.Marks.{Marks}
 use Rattle.packing.specs.model.Marks.{EvenMarks}
-use Rattle.packing.proofs.MarkFacts.{mark-grows, mark-even}
+use Rattle.packing.proofs.MarkFacts.{mark-grows, mark-even, mark-order}
 use Rattle.listfile.specs.declared.field.Instruction.{Instruction}
 use Rattle.listfile.specs.declared.field.Instruction.the-variants.{Camac, Jump, Literal, Halt}
 use Rattle.walk.specs.Walk.{Visit, noMarks, movedBy, moved, movedWords, marksAfter, marksOver}
@@ -33,10 +34,10 @@ pub record BelowMarks (m m′ : Marks) : Type 0 where
   pub incoming : m .incoming ≤ m′ .incoming
   pub outgoing : m .outgoing ≤ m′ .outgoing
 
-below-self : (m : Marks) → BelowMarks m m
+pub below-self : (m : Marks) → BelowMarks m m
 below-self m = record { incoming = le-refl _; outgoing = le-refl _ }
 
-below-trans : {a b c : Marks} → BelowMarks a b → BelowMarks b c → BelowMarks a c
+pub below-trans : {a b c : Marks} → BelowMarks a b → BelowMarks b c → BelowMarks a c
 below-trans p q = record { incoming = le-trans (p .incoming) (q .incoming); outgoing = le-trans (p .outgoing) (q .outgoing) }
 
 by-grows : (d : Direction) (wide : Bool) (m : Marks) → BelowMarks m (movedBy d wide m)
@@ -74,7 +75,7 @@ below ws pre vs m e = rw (e, over-append pre vs m) (over-grows vs (marksOver pre
 
 -- Marks stay even --------------------------------------------------------------------------------------------------------
 
-by-even : (d : Direction) (wide : Bool) (m : Marks) → EvenMarks m → EvenMarks (movedBy d wide m)
+pub by-even : (d : Direction) (wide : Bool) (m : Marks) → EvenMarks m → EvenMarks (movedBy d wide m)
 by-even Incoming wide m e = record { incoming = mark-even wide (m .incoming) (e .incoming); outgoing = e .outgoing }
 by-even Outgoing wide m e = record { incoming = e .incoming; outgoing = mark-even wide (m .outgoing) (e .outgoing) }
 by-even Neither wide m e = e
@@ -98,3 +99,35 @@ over-even (v ∷ vs) m e = over-even vs (marksAfter (v .instruction) m) (after-e
 
 pub marks-even : (vs : List Visit) → EvenMarks (marksOver vs noMarks)
 marks-even vs = over-even vs noMarks (record { incoming = refl; outgoing = refl })
+
+-- Lower marks stay lower ------------------------------------------------------------------------------------------------
+
+pub by-order : (d : Direction) (wide : Bool) (m n : Marks) → EvenMarks m → BelowMarks m n → BelowMarks (movedBy d wide m) (movedBy d wide n)
+by-order Incoming wide m n e h =
+    record { incoming = mark-order (m .incoming) (e .incoming) wide (n .incoming) (h .incoming); outgoing = h .outgoing }
+by-order Outgoing wide m n e h =
+    record { incoming = h .incoming; outgoing = mark-order (m .outgoing) (e .outgoing) wide (n .outgoing) (h .outgoing) }
+by-order Neither wide m n e h = h
+
+moved-order : (c : Command) (m n : Marks) → EvenMarks m → BelowMarks m n → BelowMarks (moved c m) (moved c n)
+unfolding moved
+moved-order c m n e h = by-order (directionOf (c .transfer)) (c .wide) m n e h
+
+pub words-order : (k : ℕ) (c : Command) (m n : Marks) → EvenMarks m → BelowMarks m n → BelowMarks (movedWords k c m) (movedWords k c n)
+unfolding movedWords
+words-order zero c m n e h = h
+words-order (suc k) c m n e h = moved-order c (movedWords k c m) (movedWords k c n) (words-even k c m e) (words-order k c m n e h)
+
+after-order : (i : Instruction) (m n : Marks) → EvenMarks m → BelowMarks m n → BelowMarks (marksAfter i m) (marksAfter i n)
+unfolding marksAfter
+after-order (Camac c) m n e h = words-order (wordsOf (c .transfer)) c m n e h
+after-order (Jump target) m n e h = h
+after-order (Literal v) m n e h = by-order Incoming true m n e h
+after-order Halt m n e h = h
+
+pub over-order : (vs : List Visit) (m n : Marks) → EvenMarks m → BelowMarks m n → BelowMarks (marksOver vs m) (marksOver vs n)
+unfolding marksOver
+over-order [] m n e h = h
+over-order (v ∷ vs) m n e h =
+    over-order vs (marksAfter (v .instruction) m) (marksAfter (v .instruction) n) (after-even (v .instruction) m e)
+    (after-order (v .instruction) m n e h)

@@ -253,7 +253,7 @@ module _ (z : Run) (k : Spot) (u : Stay) (b : List ℕ) where
           formed = subst (FormedFrom (z .row)) next (formed-here (z .row) (u .taken * 8) (x .formed) (l .inside) .behind);
           kept = kept;
           behind = λ e.
-              let w = last-going g al (at z k v) y (omega (arith, l .some, l .left)) (l .last e) kept in
+              let w = last-going g al (at z k v) y (l .last e) kept in
               record { on = w .on; room = w .room };
           stage = took-stage g al (l .reply) b (stood z k v y) takes;
           goes = λ out. standing-moves x (stay-waits (l .some)) .goes out

@@ -74,9 +74,9 @@ module _ {list table : List ℕ} {s : Sizes} {room : ℕ} (g : Grounds list tabl
   pub walk-behind : OnWalk list (s .count) (spotAfter (r .spot))
   walk-behind = on-next list table s (g .counts) room (g .outgoing) (g .prepared) r c (al .rest) (al .waits) .0
 
-  pub last-going : (r′ : Record) (b : List ℕ) → r .left ≡ 1 → r′ .marks ≡ moved c (r .marks) → length b ≡ room
+  pub last-going : (r′ : Record) (b : List ℕ) → r′ .marks ≡ moved c (r .marks) → length b ≡ room
       → Going list (s .count) (spotAfter (r .spot)) r′ b
-  last-going = going-next list table s (g .counts) room (g .outgoing) (g .prepared) r c (al .rest) (al .waits) (al .fit)
+  last-going r′ b e = going-next list table s (g .counts) room (g .outgoing) (g .prepared) r c (al .rest) (al .waits) (al .fit) r′ b (inl e)
 
   pub reply-taken : (reply : Reply) (b out : List ℕ)
       → takeAt (planBy list s) reply (stateOf r b out) ≡ takeReply (s .limit) (restFrom list (s .count) (spotAfter (r .spot))) c reply (stateOf r b out)

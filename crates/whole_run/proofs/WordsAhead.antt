@@ -1,5 +1,5 @@
--- A record that waits on an admitted list has room for all words left of its instruction, and small numbers: its marks with those words are the
--- walk's behind the instruction, and those are at most B and O.
+-- A record that waits on an admitted list has room for all words left of its instruction, and small numbers: its marks with those words are at
+-- most the walk's behind the instruction, and those at most B and O.
 use Prim.Native.Nat.{ℕ, zero, suc, _+_, _-_, _^_, _≤_}
 use mathlib.Core.Path.{_≡_, sym, ap, _∙_, subst}
 use mathlib.Core.List.{List, [], _∷_, _++_}
@@ -19,7 +19,7 @@ use Rattle.walk.specs.Admission.{Plan, countsOf}
 use Rattle.walk.specs.model.Sums.{planBy}
 use Rattle.walk.specs.declared.worst.Counts.{Counts}
 use Rattle.walk.proofs.Halting.{Well, well-after}
-use Rattle.walk.proofs.MarksGrow.{BelowMarks, moved-grows, over-snoc, below}
+use Rattle.walk.proofs.MarksGrow.{BelowMarks, below-trans, moved-grows, words-order, over-snoc, below}
 use Rattle.reply.specs.declared.records.Record.{Record}
 use Rattle.worst_count.proofs.Live.{Live, camacVisit, waits-once, fits-live, live-waits}
 use Rattle.worst_count.proofs.RunOn.{lastMarks}
@@ -53,12 +53,14 @@ unfolding marksAfter
 words-below p r l =
     let v : Visit = camacVisit (r .spot) (l .place) (l .command) in
     let n : wordsOf (l .command .transfer) - r .left + r .left ≡ wordsOf (l .command .transfer) = omega (arith, l .most) in
-    let e : movedWords (r .left) (l .command) (r .marks) ≡ marksOver (l .pre ++ v ∷ []) noMarks =
-    ap (movedWords (r .left) (l .command)) (l .marks)
-    ∙ words-add (wordsOf (l .command .transfer) - r .left) (r .left) (l .command) (marksOver (l .pre) noMarks)
+    let e : movedWords (r .left) (l .command) (movedWords (wordsOf (l .command .transfer) - r .left) (l .command) (marksOver (l .pre) noMarks))
+    ≡ marksOver (l .pre ++ v ∷ []) noMarks =
+    words-add (wordsOf (l .command .transfer) - r .left) (r .left) (l .command) (marksOver (l .pre) noMarks)
     ∙ ap (λ (k : ℕ). movedWords k (l .command) (marksOver (l .pre) noMarks)) n
     ∙ sym (over-snoc (l .pre) v noMarks) in
-    subst (λ (m : Marks). BelowMarks m (lastMarks p)) (sym e)
+    below-trans
+    (subst (BelowMarks (movedWords (r .left) (l .command) (r .marks))) e
+    (words-order (r .left) (l .command) (r .marks) _ (l .marks .even) (l .marks .below)))
     (below (p .visits) (l .pre ++ v ∷ []) (l .post) noMarks (l .split ∙ sym (append-snoc (l .pre) v (l .post))))
 
 module _ (list table : List ℕ) (s : Sizes) (room : ℕ) (g : Grounds list table s room) where

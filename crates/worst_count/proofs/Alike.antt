@@ -1,5 +1,5 @@
--- Instructions that are alike run the same: each definition reads an instruction only by its Q-mode, words wanted, direction, N and A, word size
--- and AD, so that rewriting with the six equations of Alike makes both sides the same. Both kinds of blocks are alike by computing.
+-- Instructions that are alike run the same: each definition reads an instruction only by its Q-mode, whether it is a block, words wanted,
+-- direction, N and A, word size and AD, so that rewriting with the equations of Alike makes both sides the same. Both kinds of blocks are alike by computing.
 use Prim.Native.Nat.{ℕ, zero, suc}
 use mathlib.Core.Path.{_≡_, refl, ap}
 use mathlib.Core.List.{List, [], _∷_}
@@ -8,7 +8,7 @@ use borrow.Author.Tests.{eqb-true}
 use lib.Dec.{eqb, ltb}
 use Rattle.base.proofs.Bools.{and-left, and-right}
 use Rattle.base.proofs.Tests.{on}
-use Rattle.camac.specs.Words.{qmodeOf, addressOf, wordsOf, directionOf, isSequencerAt}
+use Rattle.camac.specs.Words.{qmodeOf, isBlock, addressOf, wordsOf, directionOf, isSequencerAt}
 use Rattle.camac.specs.declared.words.Address.{Address}
 use Rattle.camac.specs.declared.words.Transfer.the-variants.{Block, Enhanced}
 use Rattle.camac.specs.declared.words.Command.{Command}
@@ -61,7 +61,7 @@ module _ (c d : Command) (a : Alike c d) where
   same-causes limit r NoSync = refl
   same-causes limit r NotRecognised = refl
   same-causes limit r Timeout = refl
-  same-causes limit r (Answered x) = rw (a .qmode, a .ad)
+  same-causes limit r (Answered x) = rw (a .qmode, a .block, a .ad)
 
   same-code : (limit : ℕ) (r : Record) (reply : Reply) → codeOf limit c r reply ≡ codeOf limit d r reply
   unfolding codeOf
@@ -115,11 +115,12 @@ sequencer-direction a n s =
     on (ltb (a .subaddress) 2) (λ e. rw (twelve, e)) (λ e. rw (twelve, e))
 
 pub kinds : Kinds
-unfolding qmodeOf wordsOf directionOf addressOf
+unfolding qmodeOf isBlock wordsOf directionOf addressOf
 kinds = record {
   same = same-run;
   enhanced = λ q a n wide ad e. record {
     qmode = refl;
+    block = refl;
     words = refl;
     direction = by-function a e;
     position = refl;
@@ -128,6 +129,7 @@ kinds = record {
   };
   sequencer = λ a n wide ad s. record {
     qmode = refl;
+    block = refl;
     words = refl;
     direction = sequencer-direction a n s;
     position = refl;

@@ -2,7 +2,7 @@
 use Prim.Native.Nat.{ℕ}
 use mathlib.Core.Path.{refl}
 use Rattle.qmodes.specs.Scan.{positions, stations, afterOther, afterDone}
-use Rattle.camac.specs.Words.{addressIn, blockWords, transferIn, commandIn, qmodeOf, addressOf, wordsOf, directionOf, isEnhanced, camacFault, decodeOf}
+use Rattle.camac.specs.Words.{addressIn, blockWords, transferIn, commandIn, qmodeOf, addressOf, wordsOf, directionOf, isEnhanced, isBlock, camacFault, decodeOf}
 use Rattle.packing.specs.Packing.{padAt, alignedMark, widthOf, markAfter, stored, wordAt}
 use Rattle.base.specs.Bytes.{byteAt, shortAt, longAt}
 use Rattle.listfile.specs.Fields.{firstAt, secondAt, headFault, bodyOf, fieldOf, firstFault, fieldsFrom, firstBadJump, programOf}
@@ -20,7 +20,7 @@ use Rattle.worst_count.specs.Cases.{Cases}
 
 -- opens every definition that a case computes with
 opened : ℕ
-unfolding positions stations afterOther afterDone addressIn blockWords transferIn commandIn qmodeOf addressOf wordsOf directionOf isEnhanced camacFault decodeOf padAt alignedMark widthOf markAfter stored wordAt byteAt shortAt longAt firstAt secondAt headFault bodyOf fieldOf firstFault fieldsFrom firstBadJump programOf walkFrom walkOf upTo onFrom moved movedWords marksAfter marksOver worstWords worstOf worstOver planOf countsOf prepare admitOf answerIn hasForm replyOf cutRow repliesIn allFormed leaves causeChecks causesOf codeOf flagsOf endedAt waitsFor putLiteral runOn movedRecord movedBytes moveWord counted waiting triesAfter positionAfter goOn byCauses takeReply mostLeft marksFit noteFits fitsAt fitsFrom fits wordWanted operationOf wantedAt wantedOf begun startOf takeFrom takeAt stepOf stepsOver runOf
+unfolding positions stations afterOther afterDone addressIn blockWords transferIn commandIn qmodeOf addressOf wordsOf directionOf isEnhanced isBlock camacFault decodeOf padAt alignedMark widthOf markAfter stored wordAt byteAt shortAt longAt firstAt secondAt headFault bodyOf fieldOf firstFault fieldsFrom firstBadJump programOf walkFrom walkOf upTo onFrom moved movedWords marksAfter marksOver worstWords worstOf worstOver planOf countsOf prepare admitOf answerIn hasForm replyOf cutRow repliesIn allFormed leaves causeChecks causesOf codeOf flagsOf endedAt waitsFor putLiteral runOn movedRecord movedBytes moveWord counted waiting triesAfter positionAfter goOn byCauses takeReply mostLeft marksFit noteFits fitsAt fitsFrom fits wordWanted operationOf wantedAt wantedOf begun startOf takeFrom takeAt stepOf stepsOver runOf
 opened = 0
 
 pub cases : Cases

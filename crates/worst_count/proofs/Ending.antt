@@ -1,6 +1,6 @@
 -- A run has ended exactly when it met halt or a cause, and its status has the code. A row of replies is taken by its last one: before it the
--- run waits at an operation, and the reply either is a cause, or does the last word before the halt, or leaves the run waiting.
-use Prim.Native.Nat.{ℕ, suc, _+_, _-_, _*_, _^_, _≤_}
+-- run waits at an operation, and the reply either is a cause, or finishes the last operation before the halt, or leaves the run waiting.
+use Prim.Native.Nat.{ℕ, suc, _+_, _-_, _*_, _^_}
 use mathlib.Core.Path.{_≡_, refl, sym, ap, ap₂, _∙_, subst}
 use mathlib.Core.Logic.{_⊎_, inl, inr}
 use mathlib.Core.Bool.{Bool, true, false, _&&_, true≢false}
@@ -8,13 +8,13 @@ use mathlib.Core.List.{List, [], _∷_, _++_}
 use mathlib.Core.Option.{some}
 use native.Mathlib.Omega.{arith}
 use lib.Dec.{eqb}
-use borrow.Author.Tests.{eq-eqb, ne-eqb, eqb-true, eqb-false}
 use lib.Bits.{bitOr}
 use lib.ListN.{length}
 use Rattle.base.specs.Checks.{if_then_else_, bit}
 use Rattle.camac.specs.Words.{qmodeOf}
 use Rattle.camac.specs.declared.words.Command.{Command}
 use Rattle.base.proofs.Bools.{both, and-left, and-right}
+use Rattle.base.proofs.Tests.{on}
 use Rattle.listfile.specs.declared.field.Instruction.{Instruction}
 use Rattle.listfile.specs.declared.field.Instruction.the-variants.{Camac, Jump, Literal, Halt}
 use Rattle.walk.specs.Walk.{Visit}
@@ -24,11 +24,11 @@ use Rattle.reply.specs.Replies.{replyOf}
 use Rattle.reply.specs.Causes.{doneBy, causesOf, greatest, codeOf, onlyNine}
 use Rattle.reply.specs.Status.{flagsOf, codeIn}
 use Rattle.reply.specs.Effect.{State, withRun, endedAt, waitsFor, putLiteral, runOn, movedRecord, moveWord, counted, waiting, longwordOf, goOn, byCauses, takeReply, stateOf, zeroRecord}
-use Rattle.qmodes.specs.Modes.{triesAfter, positionAfter}
+use Rattle.qmodes.specs.Modes.{leftUndone, leftAfter}
 use Rattle.calls.specs.Calls.{begun, stepOf}
 use Rattle.reply.specs.declared.records.Record.{Record}
 use Rattle.reply.specs.declared.replies.Reply.{Reply}
-use Rattle.worst_count.specs.WorstCount.{Calls, afterReplies, haltsFirst, WaitsAt, Met, halt-at-start, halt-after, a-cause, Ended, startState, NoneRefused}
+use Rattle.worst_count.specs.WorstCount.{Calls, afterReplies, haltsFirst, WaitsAt, finishes, Met, halt-at-start, halt-after, a-cause, Ended, startState, NoneRefused}
 use Rattle.worst_count.proofs.StatusBits.{Clear, clear-zero, only-clear, clear-gathered, clear-code, clear-bit, ended-code, ended-bit}
 use Rattle.worst_count.proofs.Live.{Live, live-halts, waits-once, live-waits}
 use Rattle.worst_count.proofs.RunOn.{Over}
@@ -63,22 +63,14 @@ runs-onward : (vs : List Visit) → OnWalk vs
 runs-onward [] s h = absurd h
 runs-onward (v ∷ vs) s h = at-visit (v .spot) (v .place) (v .instruction) vs (runs-onward vs) s h
 
--- no cause: the halt where the last word was done and halt comes first on the walk after it
-goes-onward : (rest : List Visit) → Halts rest → (c : Command) (isDone : Bool) (word : ℕ) (s : State) → 1 ≤ s .run .left
-    → Onward (isDone && (eqb (s .run .left) 1 && haltsFirst rest)) (s .run .status) (goOn rest c isDone word s)
+-- no cause: the halt where the instruction is finished and halt comes first on the walk after it
+goes-onward : (rest : List Visit) → Halts rest → (c : Command) (isDone : Bool) (word : ℕ) (s : State)
+    → Onward (eqb (leftAfter (qmodeOf (c .transfer)) isDone (s .run .left)) 0 && haltsFirst rest) (s .run .status) (goOn rest c isDone word s)
 unfolding goOn moveWord movedRecord waiting
-goes-onward rest hr c true word s one = go (eqb (s .run .left) 1) refl
-  where
-    waits : ℕ → State
-    waits left = withRun (waiting left (triesAfter (qmodeOf (c .transfer)) true (s .run .tries))
-        (positionAfter (qmodeOf (c .transfer)) true (s .run .position)) (moveWord c word s .run)) (moveWord c word s)
-
-    go : (b : Bool) → eqb (s .run .left) 1 ≡ b
-        → Onward (b && haltsFirst rest) (s .run .status)
-        (if eqb (s .run .left - 1) 0 then runOn rest (moveWord c word s) else waits (s .run .left - 1))
-    go true q = rw (eq-eqb (s .run .left - 1) 0 (omega (arith, eqb-true (s .run .left) 1 q))) (runs-onward rest (moveWord c word s) hr)
-    go false q = rw (ne-eqb (s .run .left - 1) 0 (λ e. eqb-false (s .run .left) 1 q (omega arith))) (waits-on refl refl)
-goes-onward rest hr c false word s one = rw (ne-eqb (s .run .left) 0 (λ e. omega arith)) (waits-on refl refl)
+goes-onward rest hr c true word s =
+    on (eqb (s .run .left - 1) 0) (λ e. rw e (runs-onward rest (moveWord c word s) hr)) (λ e. rw e (waits-on refl refl))
+goes-onward rest hr c false word s =
+    on (eqb (leftUndone (qmodeOf (c .transfer)) (s .run .left)) 0) (λ e. rw e (runs-onward rest s hr)) (λ e. rw e (waits-on refl refl))
 
 ends-with : (rest : List Visit) (c : Command) (isDone : Bool) (word code : ℕ) (codes : List ℕ) (s : State)
     (n : ℕ) → greatest (code ∷ codes) ≡ n → EndedWith (s .run .status) n (byCauses (code ∷ codes) rest c isDone word s)
@@ -91,27 +83,27 @@ ends-with rest c isDone word code codes s n e =
     go true = record { over = refl; status = refl }
     go false = record { over = refl; status = refl }
 
--- whether a reply does the last word before the halt
-abbrev lastWord : List Visit → Command → Reply → Record → Bool
-lastWord rest c x r = doneBy (qmodeOf (c .transfer)) x && (eqb (r .left) 1 && haltsFirst rest)
+-- whether a reply finishes the last operation before the halt
+abbrev isLast : List Visit → Command → Reply → Record → Bool
+isLast rest c x r = finishes c x (r .left) && haltsFirst rest
 
 -- what a reply taken at an operation did
 data Took (rest : List Visit) (limit : ℕ) (c : Command) (x : Reply) (s s′ : State) : Type 0 where
-  goes : codeOf limit c (s .run) x ≡ 0 → lastWord rest c x (s .run) ≡ false → s′ .run .ended ≡ false → Took rest limit c x s s′
-  halts : codeOf limit c (s .run) x ≡ 0 → lastWord rest c x (s .run) ≡ true → EndedWith (bitOr (s .run .status) (flagsOf limit c (s .run) x)) 0 s′
+  goes : codeOf limit c (s .run) x ≡ 0 → isLast rest c x (s .run) ≡ false → s′ .run .ended ≡ false → Took rest limit c x s s′
+  halts : codeOf limit c (s .run) x ≡ 0 → isLast rest c x (s .run) ≡ true → EndedWith (bitOr (s .run .status) (flagsOf limit c (s .run) x)) 0 s′
       → Took rest limit c x s s′
   causes : (code : ℕ) → codeOf limit c (s .run) x ≡ suc code → EndedWith (bitOr (s .run .status) (flagsOf limit c (s .run) x)) (suc code) s′
       → Took rest limit c x s s′
 
-takes : (rest : List Visit) → Halts rest → (limit : ℕ) (c : Command) (x : Reply) (s : State) → 1 ≤ s .run .left
+takes : (rest : List Visit) → Halts rest → (limit : ℕ) (c : Command) (x : Reply) (s : State)
     → Took rest limit c x s (takeReply limit rest c x s)
 unfolding takeReply byCauses counted codeOf
-takes rest hr limit c x s one = by-row (causesOf limit c (s .run) x) refl
+takes rest hr limit c x s = by-row (causesOf limit c (s .run) x) refl
   where
     now : State
     now = withRun (counted limit c x (s .run)) s
 
-    onward : codeOf limit c (s .run) x ≡ 0 → Onward (lastWord rest c x (s .run)) (now .run .status)
+    onward : codeOf limit c (s .run) x ≡ 0 → Onward (isLast rest c x (s .run)) (now .run .status)
         (goOn rest c (doneBy (qmodeOf (c .transfer)) x) (longwordOf x) now)
         → Took rest limit c x s (goOn rest c (doneBy (qmodeOf (c .transfer)) x) (longwordOf x) now)
     onward q (waits-on b f) = goes q b f
@@ -119,7 +111,7 @@ takes rest hr limit c x s one = by-row (causesOf limit c (s .run) x) refl
 
     by-row : (codes : List ℕ) → causesOf limit c (s .run) x ≡ codes
         → Took rest limit c x s (byCauses codes rest c (doneBy (qmodeOf (c .transfer)) x) (longwordOf x) now)
-    by-row [] q = onward (rw q) (goes-onward rest hr c (doneBy (qmodeOf (c .transfer)) x) (longwordOf x) now one)
+    by-row [] q = onward (rw q) (goes-onward rest hr c (doneBy (qmodeOf (c .transfer)) x) (longwordOf x) now)
     by-row (code ∷ codes) q =
         let one : greatest (code ∷ codes) ≡ suc (greatest (code ∷ codes) - 1) = omega (arith, cause-numbered limit c (s .run) x q) in
         causes (greatest (code ∷ codes) - 1) (rw q one)
@@ -183,7 +175,7 @@ module _ (list incoming outgoing : List ℕ) (p : Plan) (prepared : prepare list
         at = live-waits false p (after rs .run) (sound .distinct) l;
         clear = clear-gathered (p .limit) (l .command) (after rs .run) (x .answer) (only-clear _ (l .status));
         took = subst (λ (s : State). Took (l .post) (p .limit) (l .command) (x .answer) (after rs) s) (sym (after-last list start rs r ∙ x .state))
-            (takes (l .post) (live-halts false p (after rs .run) l (sound .halts)) (p .limit) (l .command) (x .answer) (after rs) (l .some));
+            (takes (l .post) (live-halts false p (after rs .run) l (sound .halts)) (p .limit) (l .command) (x .answer) (after rs));
       }
 
   -- what the record says after a row of replies
@@ -215,10 +207,8 @@ module _ (list incoming outgoing : List ℕ) (p : Plan) (prepared : prepare list
           by-took : Took (l .rest) (p .limit) (l .command) (l .reply) (after rs) (after (rs ++ r ∷ [])) → Says (rs ++ r ∷ [])
           by-took (goes q b f) = absurd (true≢false (sym e ∙ f))
           by-took (halts q b f) =
-              let b′ = and-right (doneBy (qmodeOf (l .command .transfer)) (l .reply)) _ b in
               over _ 0 (l .clear) f (halt-after rs r (l .command) (l .reply) (l .rest) (l .at) (l .formed) q (and-left _ _ b)
-              (eqb-true _ _ (and-left _ _ b′))
-              (and-right (eqb (after rs .run .left) 1) _ b′))
+              (and-right (finishes (l .command) (l .reply) (after rs .run .left)) _ b))
           by-took (causes c q f) = over _ (suc c) (l .clear) f (a-cause rs r (l .command) (l .reply) (l .rest) c (l .at) (l .formed) q)
 
       by-stage : Live false p (after rs .run) ⊎ Over false p (after rs .run) → Says rs
@@ -229,7 +219,7 @@ module _ (list incoming outgoing : List ℕ) (p : Plan) (prepared : prepare list
   same-last : (rs : List (List ℕ)) (r : List ℕ) (l : Last rs r) (c : Command) (x : Reply) (rest : List Visit) → WaitsAt p (after rs .run) c rest
       → replyOf r ≡ some x
       → (codeOf (p .limit) (l .command) (after rs .run) (l .reply) ≡ codeOf (p .limit) c (after rs .run) x)
-      × (lastWord (l .rest) (l .command) (l .reply) (after rs .run) ≡ lastWord rest c x (after rs .run))
+      × (isLast (l .rest) (l .command) (l .reply) (after rs .run) ≡ isLast rest c x (after rs .run))
   same-last rs r l c x rest w f =
       let one = waits-once (l .at) w in
       let commands : l .command ≡ c = one .0 in
@@ -237,8 +227,8 @@ module _ (list incoming outgoing : List ℕ) (p : Plan) (prepared : prepare list
       let some-same : some (l .reply) ≡ some x = sym (l .formed) ∙ f in
       let replies : l .reply ≡ x = cc in (
         ap₂ (λ (a : Command) (y : Reply). codeOf (p .limit) a (after rs .run) y) commands replies,
-        ap₂ (λ (d : Bool) (v : List Visit). d && (eqb (after rs .run .left) 1 && haltsFirst v))
-            (ap₂ (λ (a : Command) (y : Reply). doneBy (qmodeOf (a .transfer)) y) commands replies) rests,
+        ap₂ (λ (d : Bool) (v : List Visit). d && haltsFirst v)
+            (ap₂ (λ (a : Command) (y : Reply). finishes a y (after rs .run .left)) commands replies) rests,
       )
 
   abbrev EndedBy : List (List ℕ) → ℕ → Type 0
@@ -254,20 +244,20 @@ module _ (list incoming outgoing : List ℕ) (p : Plan) (prepared : prepare list
       first : Onward (haltsFirst (p .visits)) 0 start → (start .run .ended ≡ true) × (codeIn (start .run .status) ≡ 0)
       first (waits-on b f) = absurd (true≢false (sym q ∙ b))
       first (meets-halt b f) = (f .over, ap codeIn (f .status) ∙ ended-code 0 clear-zero 0)
-  when-met _ _ h (halt-after rs r c x rest w f q d e b) = by-took (l .took)
+  when-met _ _ h (halt-after rs r c x rest w f q e b) = by-took (l .took)
     where
       l : Last rs r
       l = last-reply rs r h
 
       same : (codeOf (p .limit) (l .command) (after rs .run) (l .reply) ≡ codeOf (p .limit) c (after rs .run) x)
-          × (lastWord (l .rest) (l .command) (l .reply) (after rs .run) ≡ lastWord rest c x (after rs .run))
+          × (isLast (l .rest) (l .command) (l .reply) (after rs .run) ≡ isLast rest c x (after rs .run))
       same = same-last rs r l c x rest w f
 
-      last-word : lastWord rest c x (after rs .run) ≡ true
-      last-word = both d (both (eq-eqb _ _ e) b)
+      is-last : isLast rest c x (after rs .run) ≡ true
+      is-last = both e b
 
       by-took : Took (l .rest) (p .limit) (l .command) (l .reply) (after rs) (after (rs ++ r ∷ [])) → EndedBy (rs ++ r ∷ []) 0
-      by-took (goes z b′ g) = absurd (true≢false (sym last-word ∙ sym (same .1) ∙ b′))
+      by-took (goes z b′ g) = absurd (true≢false (sym is-last ∙ sym (same .1) ∙ b′))
       by-took (halts z b′ g) = ended-by (rs ++ r ∷ []) _ 0 (l .clear) g
       by-took (causes code z g) = absurd (omega (arith, same .0, z, q))
   when-met _ _ h (a-cause rs r c x rest code w f q) = by-took (l .took)

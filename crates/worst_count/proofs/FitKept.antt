@@ -26,7 +26,7 @@ use Rattle.reply.specs.declared.replies.Reply.{Reply}
 use Rattle.qmodes.proofs.MostFalls.{TriesOk, PositionOk}
 use Rattle.worst_count.specs.WorstCount.{WaitsAt}
 use Rattle.worst_count.proofs.StatusBits.{only-le}
-use Rattle.worst_count.proofs.Live.{near-le, Live, live-even, waits-once, fits-live, live-waits, live-fits}
+use Rattle.worst_count.proofs.Live.{near-le, Live, live-under, waits-once, fits-live, live-waits, live-fits}
 use Rattle.worst_count.proofs.RunOn.{lastMarks, Over, Reached}
 use Rattle.worst_count.proofs.Move.{next-below, live-some}
 use Rattle.worst_count.proofs.Take.{takes}
@@ -140,7 +140,7 @@ live-numbers slow p r sound l = record {
   operations-most = omega (arith, near-le slow _ _ (l .bound), live-some slow p r l);
   status-most = only-le waitingBits (r .status) (l .status);
   next-marks = next-below slow p r l;
-  even = live-even slow p r l;
+  even = live-under slow p r l .even;
 }
 
 pub fits-numbers : (p : Plan) → SoundPlan p → (r : Record) → fits p r ≡ true → {c : Command} {rest : List Visit} → WaitsAt p r c rest

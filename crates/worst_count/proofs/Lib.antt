@@ -12,3 +12,7 @@ pub mod Bound
 pub mod FitKept
 pub mod Cases
 pub mod Alike
+pub mod Bare
+pub mod CommonEnd
+pub mod BlockReplies
+pub mod ShortBlocks

@@ -1,6 +1,6 @@
 -- Live is what fit says, as facts and not as a test: a record that fits is live, and on a walk that visits no instruction twice a live record
 -- fits, because its instruction's number finds its place there.
-use Prim.Native.Nat.{ℕ, _+_, _-_, _≤_}
+use Prim.Native.Nat.{ℕ, _+_, _-_, _%_, _≤_}
 use mathlib.Core.Path.{_≡_, refl, sym, ap, _∙_, subst}
 use mathlib.Core.Logic.{_⊎_, inl, inr}
 use mathlib.Core.Bool.{Bool, true, false, _&&_, _||_, not, false≢true}
@@ -27,14 +27,14 @@ use Rattle.walk.specs.Admission.{Plan}
 use Rattle.walk.proofs.Halting.{Distinct, found, Halts, halts-after, Well, well-after}
 use Rattle.reply.specs.Status.{waitingBits}
 use Rattle.qmodes.specs.Modes.{mostLeft, triesFit, samePosition, positionFits}
-use Rattle.calls.specs.Fit.{marksFit, noteFits, fitsAt, fitsFrom, fits}
+use Rattle.calls.specs.Fit.{markFits, marksFit, noteFits, fitsAt, fitsFrom, fits}
 use Rattle.reply.specs.declared.records.Note.{Note}
 use Rattle.reply.specs.declared.records.Record.{Record}
 use Rattle.worst_count.specs.WorstCount.{WaitsAt}
 use Rattle.worst_count.proofs.StatusBits.{Only}
 use Rattle.walk.specs.declared.visits.Spot.{Spot}
 use Rattle.walk.proofs.Spots.{split-at, on-from-spot}
-use Rattle.walk.proofs.MarksGrow.{BelowMarks, words-even, marks-even}
+use Rattle.walk.proofs.MarksGrow.{BelowMarks, below-self, by-even, words-even, by-order, marks-even}
 use Rattle.walk.specs.Walk.{movedBy}
 use Rattle.camac.specs.declared.words.Direction.{Direction}
 
@@ -47,34 +47,31 @@ pub data NoteOk (n : Note) (m : Marks) : Type 0 where
   read : n .buffer ≡ 0 → (n .size ≡ 2) ⊎ (n .size ≡ 4) → n .offset + n .size ≤ m .incoming → NoteOk n m
   wrote : n .buffer ≡ 1 → (n .size ≡ 2) ⊎ (n .size ≡ 4) → n .offset + n .size ≤ m .outgoing → NoteOk n m
 
-marks-same-below : {m m′ : Marks} → m ≡ m′ → BelowMarks m m′
-marks-same-below e =
-    record { incoming = omega (arith, ap (λ (x : Marks). x .incoming) e); outgoing = omega (arith, ap (λ (x : Marks). x .outgoing) e) }
+-- marks that are even and at most those of the walk with the moved words
+pub record Under (m m′ : Marks) : Type 0 where
+  pub below : BelowMarks m m′
+  pub even : EvenMarks m
 
--- marks against those of the walk with the moved words
+-- the slowest run, which closes no block, has those of the walk
 abbrev pub MarksOk : Bool → Marks → Marks → Type 0
 MarksOk true m m′ = m ≡ m′
-MarksOk false m m′ = m ≡ m′
+MarksOk false m m′ = Under m m′
 
 pub marks-ok-start : (slow : Bool) → MarksOk slow noMarks noMarks
 marks-ok-start true = refl
-marks-ok-start false = refl
+marks-ok-start false = record { below = below-self noMarks; even = record { incoming = refl; outgoing = refl } }
 
 pub marks-ok-same : (slow : Bool) (m m′ m″ : Marks) → MarksOk slow m m′ → m′ ≡ m″ → MarksOk slow m m″
 marks-ok-same true m m′ m″ h e = h ∙ e
-marks-ok-same false m m′ m″ h e = h ∙ e
+marks-ok-same false m m′ m″ h e = subst (Under m) e h
 
-pub marks-ok-below : (slow : Bool) (m m′ : Marks) → MarksOk slow m m′ → BelowMarks m m′
-marks-ok-below true m m′ h = marks-same-below h
-marks-ok-below false m m′ h = marks-same-below h
-
-marks-ok-even : (slow : Bool) (m m′ : Marks) → MarksOk slow m m′ → EvenMarks m′ → EvenMarks m
-marks-ok-even true m m′ h e = subst EvenMarks (sym h) e
-marks-ok-even false m m′ h e = subst EvenMarks (sym h) e
+pub marks-ok-under : (slow : Bool) (m m′ : Marks) → EvenMarks m′ → MarksOk slow m m′ → Under m m′
+marks-ok-under true m m′ e h = subst (λ (x : Marks). Under x m′) (sym h) (record { below = below-self m′; even = e })
+marks-ok-under false m m′ e h = h
 
 pub marks-ok-by : (slow : Bool) (d : Direction) (wide : Bool) (m m′ : Marks) → MarksOk slow m m′ → MarksOk slow (movedBy d wide m) (movedBy d wide m′)
 marks-ok-by true d wide m m′ h = ap (movedBy d wide) h
-marks-ok-by false d wide m m′ h = ap (movedBy d wide) h
+marks-ok-by false d wide m m′ h = record { below = by-order d wide m m′ (h .even) (h .below); even = by-even d wide m (h .even) }
 
 -- a record that waits at a CAMAC instruction of the walk, with `pre` before it and `post` after it
 pub record Live (slow : Bool) (p : Plan) (r : Record) : Type 0 where
@@ -107,11 +104,12 @@ live-halts slow p r l h = halts-after (l .pre) (camacVisit (r .spot) (l .place) 
 pub live-well : (slow : Bool) (p : Plan) (r : Record) (l : Live slow p r) → Well (p .visits) → Well (l .post)
 live-well slow p r l h = well-after (l .pre) (camacVisit (r .spot) (l .place) (l .command)) (l .post) (subst Well (l .split) h) .1
 
--- its marks are even, as those of the walk are
-pub live-even : (slow : Bool) (p : Plan) (r : Record) → Live slow p r → EvenMarks (r .marks)
-live-even slow p r l =
-    marks-ok-even slow (r .marks) _ (l .marks)
-    (words-even (wordsOf (l .command .transfer) - r .left) (l .command) (marksOver (l .pre) noMarks) (marks-even (l .pre)))
+-- its marks are even and at most those of the walk
+pub live-under : (slow : Bool) (p : Plan) (r : Record) (l : Live slow p r)
+    → Under (r .marks) (movedWords (wordsOf (l .command .transfer) - r .left) (l .command) (marksOver (l .pre) noMarks))
+live-under slow p r l =
+    marks-ok-under slow (r .marks) _
+    (words-even (wordsOf (l .command .transfer) - r .left) (l .command) (marksOver (l .pre) noMarks) (marks-even (l .pre))) (l .marks)
 
 -- a record waits at one operation
 pub waits-once : {p : Plan} {r : Record} {c c′ : Command} {rest rest′ : List Visit} → WaitsAt p r c rest → WaitsAt p r c′ rest′
@@ -156,13 +154,14 @@ note-fits n m (wrote b s h) =
     or-right (zeros n) (both (size-fits _ s)
     (or-right (eqb (n .buffer) 0 && leb (n .offset + n .size) (m .incoming)) (both (eq-eqb _ _ b) (le-leb _ _ h))))
 
-marks-fit : (slow : Bool) (c : Command) (m : Marks) (r : Record) → MarksOk slow (r .marks) (movedWords (wordsOf (c .transfer) - r .left) c m)
-    → marksFit c m r ≡ true
-unfolding marksFit
-marks-fit true c m r h = both (eq-eqb _ _ (ap (λ (x : Marks). x .incoming) h)) (eq-eqb _ _ (ap (λ (x : Marks). x .outgoing) h))
-marks-fit false c m r h = both (eq-eqb _ _ (ap (λ (x : Marks). x .incoming) h)) (eq-eqb _ _ (ap (λ (x : Marks). x .outgoing) h))
+mark-fits : (m n : ℕ) → m % 2 ≡ 0 → m ≤ n → markFits m n ≡ true
+mark-fits m n e h = both (eq-eqb _ _ e) (le-leb _ _ h)
 
-found-at : (ws pre : List Visit) (v : Visit) (post : List Visit) → Distinct ws → ws ≡ pre ++ v ∷ post
+marks-fit : (c : Command) (m : Marks) (r : Record) → Under (r .marks) (movedWords (wordsOf (c .transfer) - r .left) c m) → marksFit c m r ≡ true
+unfolding marksFit
+marks-fit c m r u = both (mark-fits _ _ (u .even .incoming) (u .below .incoming)) (mark-fits _ _ (u .even .outgoing) (u .below .outgoing))
+
+pub found-at : (ws pre : List Visit) (v : Visit) (post : List Visit) → Distinct ws → ws ≡ pre ++ v ∷ post
     → (upTo (v .spot) ws ≡ pre) × (onFrom (v .spot) ws ≡ v ∷ post)
 found-at ws pre v post d e = rw e (found pre v post (rw e at d))
 
@@ -182,7 +181,7 @@ module _ (slow : Bool) (p : Plan) (r : Record) (d : Distinct (p .visits)) (l : L
       (both (ap not (l .waits)) (both (le-leb _ _ (l .some))
       (both (le-leb _ _ (l .most)) (both (tries-fit (p .limit) (qmodeOf (l .command .transfer)) (r .tries) (l .tried))
       (both (position-fits (qmodeOf (l .command .transfer)) (positionOf (l .command .transfer)) (r .position) (l .position))
-      (both (marks-fit slow (l .command) (marksOver (l .pre) noMarks) r (l .marks))
+      (both (marks-fit (l .command) (marksOver (l .pre) noMarks) r (live-under slow p r l))
       (both (le-leb _ _ (near-le slow _ _ (l .bound))) (both (eq-eqb _ _ (l .status .same)) (both (note-fits _ _ (l .noted)) refl)))))))))
 
 -- Fits, then live --------------------------------------------------------------------------------------------------------
@@ -244,14 +243,16 @@ room-ok Ignore p left = tt
 room-ok Repeat p left = tt
 room-ok Scan p left = tt
 
-marks-ok : (c : Command) (m : Marks) (r : Record) → marksFit c m r ≡ true
-    → MarksOk false (r .marks) (movedWords (wordsOf (c .transfer) - r .left) c m)
+mark-ok : (m n : ℕ) → markFits m n ≡ true → (m % 2 ≡ 0) × (m ≤ n)
+mark-ok m n h = (eqb-true _ _ (and-left _ _ h), leb-true _ _ (and-right (eqb (m % 2) 0) _ h))
+
+marks-ok : (c : Command) (m : Marks) (r : Record) → marksFit c m r ≡ true → Under (r .marks) (movedWords (wordsOf (c .transfer) - r .left) c m)
 unfolding marksFit
 marks-ok c m r h =
-    let in-mark : r .marks .incoming ≡ movedWords (wordsOf (c .transfer) - r .left) c m .incoming = eqb-true _ _ (and-left _ _ h) in
-    let out-mark : r .marks .outgoing ≡ movedWords (wordsOf (c .transfer) - r .left) c m .outgoing =
-    eqb-true _ _ (and-right (eqb (r .marks .incoming) (movedWords (wordsOf (c .transfer) - r .left) c m .incoming)) _ h) in
-    λ i. record { incoming = in-mark i; outgoing = out-mark i }
+    let old : Marks = movedWords (wordsOf (c .transfer) - r .left) c m in
+    let i = mark-ok (r .marks .incoming) (old .incoming) (and-left _ _ h) in
+    let o = mark-ok (r .marks .outgoing) (old .outgoing) (and-right (markFits (r .marks .incoming) (old .incoming)) _ h) in
+    record { below = record { incoming = i .1; outgoing = o .1 }; even = record { incoming = i .0; outgoing = o .0 } }
 
 pub fits-live : (p : Plan) (r : Record) → fits p r ≡ true → Live false p r
 unfolding fits fitsFrom fitsAt

@@ -1,9 +1,9 @@
--- A reply counted at a live record: without a cause, and with the most still possible lowered by one, the run goes on and keeps the
--- invariant; with a cause it ends, within the worst count because one operation at least was still possible.
+-- A reply counted at a live record: without a cause, and with the most still possible lowered by one, the run goes on, at its instruction or,
+-- after its last word or closed, behind it, and keeps the invariant; with a cause it ends, within the worst count because one operation at least was still possible.
 use Prim.Native.Nat.{ℕ, suc, _+_, _-_, _≤_}
-use mathlib.Core.Path.{_≡_, refl, sym, ap, _∙_}
+use mathlib.Core.Path.{_≡_, refl, sym, ap, _∙_, subst}
 use mathlib.Core.Logic.{_⊎_, inl, inr}
-use mathlib.Core.Bool.{Bool, true, false, _&&_, false≢true}
+use mathlib.Core.Bool.{Bool, true, false, _&&_, true≢false, false≢true}
 use mathlib.Core.List.{List, [], _∷_, _++_}
 use native.Mathlib.Omega.{arith}
 use native.Mathlib.Nat.{le-refl, le-trans}
@@ -22,16 +22,18 @@ use Rattle.walk.specs.Walk.{Visit, noMarks, movedBy, moved, movedWords, marksAf
 use Rattle.walk.specs.Worst.{worstOver}
 use Rattle.walk.specs.Admission.{Plan}
 use Rattle.walk.proofs.Halting.{Halts, Well}
-use Rattle.walk.proofs.MarksGrow.{over-append, BelowMarks, words-grow, over-snoc, below}
-use Rattle.qmodes.specs.Modes.{mostLeft}
-use Rattle.qmodes.proofs.MostFalls.{Near, Progress, finished, going, most-some}
+use Rattle.walk.proofs.MarksGrow.{over-append, over-snoc, BelowMarks, below-trans, words-grow, below, words-even, marks-even, over-order}
+use Rattle.qmodes.specs.Modes.{leftUndone, mostLeft}
+use Rattle.qmodes.specs.declared.modes.QMode.{QMode}
+use Rattle.qmodes.specs.declared.modes.QMode.the-variants.{Stop, Ignore, Repeat, Scan}
+use Rattle.qmodes.proofs.MostFalls.{Near, Progress, finished, closed, going, most-some}
 use Rattle.reply.specs.Causes.{greatest, onlyNine}
 use Rattle.reply.specs.Status.{flagsOf, waitingBits}
 use Rattle.reply.specs.Effect.{State, withRun, endedAt, noteAfter, storedBy, movedBytes, movedRecord, moveWord, counted, waiting, goOn, byCauses}
 use Rattle.reply.specs.declared.records.Record.{Record}
 use Rattle.reply.specs.declared.replies.Reply.{Reply}
-use Rattle.worst_count.proofs.StatusBits.{Only, only-or, Clear, only-clear, clear-gathered, ended-code}
-use Rattle.worst_count.proofs.Live.{MarksOk, marks-ok-same, marks-ok-by, marks-ok-below, NoteOk, read, wrote, Live, camacVisit}
+use Rattle.worst_count.proofs.StatusBits.{Only, only-or}
+use Rattle.worst_count.proofs.Live.{Under, MarksOk, marks-ok-same, marks-ok-by, marks-ok-under, live-under, NoteOk, read, wrote, Live, camacVisit}
 use Rattle.worst_count.proofs.RunOn.{lastMarks, Kept, Over, Reached, runs-on}
 
 -- One word moved ---------------------------------------------------------------------------------------------------------
@@ -87,8 +89,11 @@ module _ (slow : Bool) (p : Plan) (r : Record) (l : Live slow p r) where
       marks-ok-same slow _ _ _ (marks-ok-by slow (directionOf (l .command .transfer)) (l .command .wide) _ _ (l .marks))
       (sym (ap (λ (j : ℕ). movedWords j (l .command) (marksOver (l .pre) noMarks)) e))
 
-  all-words : movedWords (wordsOf (l .command .transfer)) (l .command) (marksOver (l .pre) noMarks)
-      ≡ marksOver (l .pre ++ camacVisit (r .spot) (l .place) (l .command) ∷ []) noMarks
+  -- the marks of the walk behind the instruction
+  abbrev behind : Marks
+  behind = marksOver (l .pre ++ camacVisit (r .spot) (l .place) (l .command) ∷ []) noMarks
+
+  all-words : movedWords (wordsOf (l .command .transfer)) (l .command) (marksOver (l .pre) noMarks) ≡ behind
   unfolding marksAfter
   all-words = sym (over-snoc (l .pre) (camacVisit (r .spot) (l .place) (l .command)) noMarks)
 
@@ -96,33 +101,60 @@ module _ (slow : Bool) (p : Plan) (r : Record) (l : Live slow p r) where
   split-after = l .split ∙ sym (append-snoc (l .pre) (camacVisit (r .spot) (l .place) (l .command)) (l .post))
 
   -- after the last word they are those of the walk behind the instruction
-  last-marks : r .left ≡ 1
-      → MarksOk slow (moved (l .command) (r .marks)) (marksOver (l .pre ++ camacVisit (r .spot) (l .place) (l .command) ∷ []) noMarks)
+  last-marks : r .left ≡ 1 → MarksOk slow (moved (l .command) (r .marks)) behind
   last-marks one =
       let words : wordsOf (l .command .transfer) - (r .left - 1) ≡ wordsOf (l .command .transfer) = omega arith in
       marks-ok-same slow _ _ _ marks-next (ap (λ (j : ℕ). movedWords j (l .command) (marksOver (l .pre) noMarks)) words ∙ all-words)
 
-  -- they are at most B and O
-  pub next-below : BelowMarks (moved (l .command) (r .marks)) (lastMarks p)
-  next-below = let whole : BelowMarks (marksOver (l .pre ++ camacVisit (r .spot) (l .place) (l .command) ∷ []) noMarks) (lastMarks p) =
-      below (p .visits) (l .pre ++ camacVisit (r .spot) (l .place) (l .command) ∷ []) (l .post) noMarks split-after in
-      let words : BelowMarks (movedWords (wordsOf (l .command .transfer) - (r .left - 1)) (l .command) (marksOver (l .pre) noMarks))
-      (movedWords (wordsOf (l .command .transfer)) (l .command) (marksOver (l .pre) noMarks)) =
-      words-grow (wordsOf (l .command .transfer) - (r .left - 1)) (wordsOf (l .command .transfer)) (l .command) (marksOver (l .pre) noMarks)
-      (omega arith) in
-      record {
-        incoming = omega (arith, marks-ok-below slow _ _ marks-next .incoming, ap (λ (m : Marks). m .incoming) all-words);
-        outgoing = omega (arith, marks-ok-below slow _ _ marks-next .outgoing, ap (λ (m : Marks). m .outgoing) all-words);
-      }
+  -- with fewer words than all they are even and at most those, whether the next word is moved or its block is closed
+  under-all : (m : Marks) (k : ℕ) → k ≤ wordsOf (l .command .transfer) → Under m (movedWords k (l .command) (marksOver (l .pre) noMarks))
+      → Under m behind
+  under-all m k h u = record {
+    below = subst (BelowMarks m) all-words
+        (below-trans (u .below) (words-grow k (wordsOf (l .command .transfer)) (l .command) (marksOver (l .pre) noMarks) h));
+    even = u .even;
+  }
 
--- behind the last word the rest of the walk stays below B and O
-pub last-room : (p : Plan) (r : Record) (l : Live false p r) → r .left ≡ 1
-    → BelowMarks (marksOver (l .post) (moved (l .command) (r .marks))) (lastMarks p)
-last-room p r l one =
-    let v = camacVisit (r .spot) (l .place) (l .command) in
-    marks-ok-below false _ _
-    (ap (marksOver (l .post)) (last-marks false p r l one) ∙ sym (over-append (l .pre ++ v ∷ []) (l .post) noMarks)
-    ∙ ap (λ (vs : List Visit). marksOver vs noMarks) (sym (split-after false p r l)))
+  moved-under : Under (moved (l .command) (r .marks)) behind
+  moved-under =
+      under-all _ (wordsOf (l .command .transfer) - (r .left - 1)) (omega arith)
+      (marks-ok-under slow _ _ (words-even (wordsOf (l .command .transfer) - (r .left - 1)) (l .command) _ (marks-even (l .pre))) marks-next)
+
+  closed-under : Under (r .marks) behind
+  closed-under = under-all _ (wordsOf (l .command .transfer) - r .left) (omega arith) (live-under slow p r l)
+
+  -- so that they are at most B and O
+  up-to-here : BelowMarks behind (lastMarks p)
+  up-to-here = below (p .visits) (l .pre ++ camacVisit (r .spot) (l .place) (l .command) ∷ []) (l .post) noMarks split-after
+
+  pub next-below : BelowMarks (moved (l .command) (r .marks)) (lastMarks p)
+  next-below = below-trans (moved-under .below) up-to-here
+
+  pub live-below : BelowMarks (r .marks) (lastMarks p)
+  live-below = below-trans (closed-under .below) up-to-here
+
+  -- and behind the instruction the rest of the walk stays below B and O
+  pub rest-room : (m : Marks) → (m ≡ moved (l .command) (r .marks)) ⊎ (m ≡ r .marks) → BelowMarks (marksOver (l .post) m) (lastMarks p)
+  rest-room m e =
+      let v = camacVisit (r .spot) (l .place) (l .command) in
+      let u : Under m behind = by-word e in
+      subst (BelowMarks (marksOver (l .post) m))
+      (sym (over-append (l .pre ++ v ∷ []) (l .post) noMarks) ∙ ap (λ (vs : List Visit). marksOver vs noMarks) (sym split-after))
+      (over-order (l .post) m behind (u .even) (u .below))
+    where
+      by-word : (m ≡ moved (l .command) (r .marks)) ⊎ (m ≡ r .marks) → Under m behind
+      by-word (inl e) = subst (λ (x : Marks). Under x behind) (sym e) moved-under
+      by-word (inr e) = subst (λ (x : Marks). Under x behind) (sym e) closed-under
+
+-- The words left after a word not done: none of a block that is closed, else all
+left-none : (q : QMode) (left : ℕ) → q ≡ Stop → leftUndone q left ≡ 0
+left-none q left e = rw e
+
+left-all : (q : QMode) (left : ℕ) → 1 ≤ leftUndone q left → leftUndone q left ≡ left
+left-all Stop left h = absurd (omega arith)
+left-all Ignore left h = refl
+left-all Repeat left h = refl
+left-all Scan left h = refl
 
 module _ (slow : Bool) (p : Plan) (incoming outgoing : List ℕ) (hl : 1 ≤ p .limit) (s : State) (t : ℕ) (l : Live slow p (s .run))
     (kept : Kept incoming outgoing (lastMarks p .incoming) s) (count : s .run .operations ≡ t) (reply : Reply) (word : ℕ)
@@ -158,6 +190,21 @@ module _ (slow : Bool) (p : Plan) (incoming outgoing : List ℕ) (hl : 1 ≤ p .
         kept = kept-moved;
       }))
   goes-on false (finished e one near) = absurd (false≢true e)
+  goes-on true (closed any e q near) = absurd (true≢false e)
+  goes-on false (closed any e q near) =
+      rw (left-none (qmodeOf (l .command .transfer)) (s .run .left) q)
+      (runs-on slow p incoming outgoing hl (l .post) (l .pre ++ camacVisit (s .run .spot) (l .place) (l .command) ∷ []) now (t + 1) (record {
+        split = split-after slow p (s .run) l;
+        halts = ht;
+        well = wl;
+        marks = subst (λ (b : Bool). MarksOk b (s .run .marks) (marksOver (l .pre ++ camacVisit (s .run .spot) (l .place) (l .command) ∷ []) noMarks))
+            (sym any) (closed-under slow p (s .run) l);
+        bound = near-step slow _ _ _ _ (l .bound) near;
+        status = only-or (l .status) flags;
+        noted = l .noted;
+        count = ap (λ (x : ℕ). x + 1) count;
+        kept = kept-now;
+      }))
   goes-on true (going some tried position room near) =
       rw (ne-eqb (s .run .left - 1) 0 (omega arith)) (record {
         count = ap (λ (x : ℕ). x + 1) count;
@@ -181,7 +228,8 @@ module _ (slow : Bool) (p : Plan) (incoming outgoing : List ℕ) (hl : 1 ≤ p .
         });
       })
   goes-on false (going some tried position room near) =
-      rw (ne-eqb (s .run .left) 0 (omega arith)) (record {
+      let all : leftUndone (qmodeOf (l .command .transfer)) (s .run .left) ≡ s .run .left = left-all (qmodeOf (l .command .transfer)) (s .run .left) some in
+      rw (all, ne-eqb (s .run .left) 0 (omega (arith, l .some))) (record {
         count = ap (λ (x : ℕ). x + 1) count;
         kept = record { same-length = kept .same-length; beyond = kept .beyond; same-outgoing = kept .same-outgoing };
         stage = inl (record {
@@ -191,13 +239,13 @@ module _ (slow : Bool) (p : Plan) (incoming outgoing : List ℕ) (hl : 1 ≤ p .
           post = l .post;
           split = l .split;
           waits = refl;
-          some = some;
+          some = l .some;
           most = l .most;
           tried = tried;
           position = position;
           marks = l .marks;
-          bound = near-step slow _ _ _ _ (l .bound) near;
-          room = room;
+          bound = near-step slow _ _ _ _ (l .bound) (rw all at near);
+          room = rw all at room;
           status = only-or (l .status) flags;
           noted = l .noted;
         });
@@ -215,27 +263,21 @@ live-some slow p r l =
 
 module _ (p : Plan) (incoming outgoing : List ℕ) (s : State) (t : ℕ) (l : Live false p (s .run))
     (kept : Kept incoming outgoing (lastMarks p .incoming) s) (count : s .run .operations ≡ t) (reply : Reply) (word : ℕ) where
-  pub ends-by : (code : ℕ) (codes : List ℕ) (isDone : Bool) → 1 ≤ greatest (code ∷ codes) → Reached false p incoming outgoing
+  pub ends-by : (code : ℕ) (codes : List ℕ) (isDone : Bool) → Reached false p incoming outgoing
       (byCauses (code ∷ codes) (l .post) (l .command) isDone word (withRun (counted (p .limit) (l .command) reply (s .run)) s)) (t + 1)
   unfolding byCauses endedAt counted moveWord movedRecord
-  ends-by code codes isDone some-code = go (isDone && onlyNine (code ∷ codes))
+  ends-by code codes isDone = go (isDone && onlyNine (code ∷ codes))
     where
-      some : 1 ≤ mostLeft (p .limit) (qmodeOf (l .command .transfer)) (s .run .position) (s .run .left) (s .run .tries)
-          (worstOver (p .limit) (l .post))
-      some = live-some false p (s .run) l
-
       now : State
       now = withRun (counted (p .limit) (l .command) reply (s .run)) s
 
-      clear : Clear (now .run .status)
-      clear = clear-gathered (p .limit) (l .command) (s .run) reply (only-clear _ (l .status))
-
-      ends : (r : Record) → r .operations ≡ s .run .operations + 1 → Clear (r .status) → Over false p (endedAt (s .run .spot) (greatest (code ∷ codes)) r)
-      ends r n c = record {
+      ends : (r : Record) → r .operations ≡ s .run .operations + 1 → BelowMarks (r .marks) (lastMarks p)
+          → Over false p (endedAt (s .run .spot) (greatest (code ∷ codes)) r)
+      ends r n under = record {
         over = refl;
-        within = omega (arith, l .bound, some, n);
-        no-code = λ e. absurd (false≢true e);
-        marks = λ e. absurd (omega (arith, ended-code (r .status) c (greatest (code ∷ codes)), e));
+        within = omega (arith, l .bound, live-some false p (s .run) l, n);
+        below = under;
+        clean = λ e. absurd (false≢true e);
       }
 
       go : (b : Bool) → Reached false p incoming outgoing
@@ -247,10 +289,10 @@ module _ (p : Plan) (incoming outgoing : List ℕ) (s : State) (t : ℕ) (l : Li
           record {
             count = ap (λ (x : ℕ). x + 1) count;
             kept = record { same-length = k .same-length; beyond = k .beyond; same-outgoing = k .same-outgoing };
-            stage = inr (ends (movedRecord (l .command) (now .run)) refl clear);
+            stage = inr (ends (movedRecord (l .command) (now .run)) refl (next-below false p (s .run) l));
           }
       go false = record {
         count = ap (λ (x : ℕ). x + 1) count;
         kept = record { same-length = kept .same-length; beyond = kept .beyond; same-outgoing = kept .same-outgoing };
-        stage = inr (ends (now .run) refl clear);
+        stage = inr (ends (now .run) refl (live-below false p (s .run) l));
       }

@@ -25,7 +25,7 @@ use Rattle.qmodes.specs.Modes.{worstWords, mostLeft}
 use Rattle.walk.specs.Worst.{worstOf, worstOver}
 use Rattle.walk.specs.Admission.{Plan}
 use Rattle.walk.proofs.Halting.{Halts, Well}
-use Rattle.walk.proofs.MarksGrow.{over-snoc, below}
+use Rattle.walk.proofs.MarksGrow.{BelowMarks, over-snoc, below, by-even, marks-even}
 use Rattle.reply.specs.Status.{codeIn, waitingBits}
 use Rattle.reply.specs.Effect.{State, endedAt, waitsFor, putLiteral, runOn}
 use Rattle.reply.specs.declared.records.Note.{Note}
@@ -33,7 +33,7 @@ use Rattle.reply.specs.declared.records.Record.{Record}
 use Rattle.qmodes.proofs.ScanFalls.{scan-within}
 use Rattle.qmodes.proofs.MostFalls.{TriesOk, PositionOk, Near, Room}
 use Rattle.worst_count.proofs.StatusBits.{Only, only-clear, ended-code}
-use Rattle.worst_count.proofs.Live.{MarksOk, marks-ok-same, marks-ok-by, marks-ok-below, NoteOk, unmoved, read, wrote, Live}
+use Rattle.worst_count.proofs.Live.{MarksOk, marks-ok-same, marks-ok-by, marks-ok-under, NoteOk, unmoved, read, wrote, Live}
 use Rattle.walk.specs.declared.visits.Spot.{Spot}
 
 -- B and O
@@ -46,12 +46,12 @@ pub record Kept (incoming outgoing : List ℕ) (b : ℕ) (s : State) : Type 0 wh
   pub beyond : (i : ℕ) → b ≤ i → getD (s .incoming) i 0 ≡ getD incoming i 0
   pub same-outgoing : s .outgoing ≡ outgoing
 
--- a run that has ended; with code 0 all words are moved
+-- a run that has ended, its marks at most B and O; the slowest ends with code 0 and the marks at B and O
 pub record Over (slow : Bool) (p : Plan) (r : Record) : Type 0 where
   pub over : r .ended ≡ true
   pub within : Near slow (r .operations) (worstOver (p .limit) (p .visits))
-  pub no-code : slow ≡ true → codeIn (r .status) ≡ 0
-  pub marks : codeIn (r .status) ≡ 0 → MarksOk slow (r .marks) (lastMarks p)
+  pub below : BelowMarks (r .marks) (lastMarks p)
+  pub clean : slow ≡ true → (codeIn (r .status) ≡ 0) × (r .marks ≡ lastMarks p)
 
 -- the invariant: t operations made, the run waits or is over, bytes at or beyond B are kept
 pub record Reached (slow : Bool) (p : Plan) (incoming outgoing : List ℕ) (s : State) (t : ℕ) : Type 0 where
@@ -172,7 +172,7 @@ module _ (slow : Bool) (p : Plan) (incoming outgoing : List ℕ) (hl : 1 ≤ p .
       let split : p .visits ≡ (pre ++ v ∷ []) ++ vs = b .split ∙ sym (append-snoc pre v vs) in
       let moved = marks-ok-by slow Incoming true _ _ (b .marks) in
       let under : markAfter true (s .run .marks .incoming) ≤ lastMarks p .incoming =
-      omega (arith, marks-ok-below slow _ _ moved .incoming, literal-below p pre k place x vs (b .split)) in
+      le-trans (marks-ok-under slow _ _ (by-even Incoming true _ (marks-even pre)) moved .below .incoming) (literal-below p pre k place x vs (b .split)) in
       ih (pre ++ v ∷ []) (putLiteral x s) (record {
         split = split;
         halts = b .halts;
@@ -191,16 +191,20 @@ module _ (slow : Bool) (p : Plan) (incoming outgoing : List ℕ) (hl : 1 ≤ p .
   at-visit k place Halt vs pre s t ih b =
       let v : Visit = record { spot = k; place = place; instruction = Halt } in
       let none-after : worstOver (p .limit) vs ≡ 0 = ap (worstOver (p .limit)) (b .halts) in
+      let all : MarksOk slow (s .run .marks) (lastMarks p) = marks-ok-same slow _ _ _ (b .marks)
+      (sym (over-snoc pre v noMarks)
+      ∙ ap (λ (l : List Visit). marksOver l noMarks) (sym (b .split ∙ ap (λ (l : List Visit). pre ++ v ∷ l) (b .halts)))) in
       record {
         count = b .count;
         kept = record { same-length = b .kept .same-length; beyond = b .kept .beyond; same-outgoing = b .kept .same-outgoing };
         stage = inr (record {
           over = refl;
           within = near-same slow _ _ _ (omega arith) (b .bound);
-          no-code = λ e. ended-code (s .run .status) (only-clear _ (b .status)) 0;
-          marks = λ e. marks-ok-same slow _ _ _ (b .marks)
-              (sym (over-snoc pre v noMarks)
-              ∙ ap (λ (l : List Visit). marksOver l noMarks) (sym (b .split ∙ ap (λ (l : List Visit). pre ++ v ∷ l) (b .halts))));
+          below = marks-ok-under slow _ _ (marks-even (p .visits)) all .below;
+          clean = λ e. (
+            ended-code (s .run .status) (only-clear _ (b .status)) 0,
+            subst (λ (x : Bool). MarksOk x (s .run .marks) (lastMarks p)) e all,
+          );
         });
       }
 

@@ -116,7 +116,7 @@ module _ (list incoming outgoing : List ℕ) (p : Plan) (prepared : prepare list
   start-reached slow = subst (λ (s : State). Reached slow p incoming outgoing s 0) (sym start-state) (begun-reached slow p sound incoming outgoing)
 
   module _ (slow : Bool) (s : State) (kept : Kept incoming outgoing (lastMarks p .incoming) s) where
-    prepared-still : prepare list (length (s .incoming)) (length (s .outgoing)) ≡ ready p
+    pub prepared-still : prepare list (length (s .incoming)) (length (s .outgoing)) ≡ ready p
     prepared-still = ap₂ (λ (i o : ℕ). prepare list i o) (kept .same-length) (ap length (kept .same-outgoing)) ∙ prepared
 
     pub step-ended : s .run .ended ≡ true → (reply : List ℕ) → stepOf list s reply ≡ refusedCall (refusal 24) s

@@ -5,7 +5,7 @@ use mathlib.Core.Bool.{Bool, true, false}
 use mathlib.Core.List.{List, [], _∷_}
 use native.Mathlib.Omega.{arith}
 use Rattle.base.specs.Checks.{if_then_else_, Check}
-use Rattle.camac.specs.Words.{qmodeOf, positionOf}
+use Rattle.camac.specs.Words.{qmodeOf, isBlock, positionOf}
 use Rattle.base.proofs.Checks.{Passed}
 use Rattle.walk.specs.Worst.{worstOver}
 use Rattle.walk.specs.Admission.{Plan}
@@ -16,7 +16,6 @@ use Rattle.reply.specs.Status.{flagsOf, waitingBits}
 use Rattle.reply.specs.Effect.{State, withRun, counted, longwordOf, byCauses, takeReply}
 use Rattle.reply.specs.declared.replies.Reply.{Reply}
 use Rattle.reply.specs.declared.replies.Reply.the-variants.{Answered, Timeout, NotRecognised, NoSync}
-use Rattle.reply.proofs.CodeCases.{cause-numbered}
 use Rattle.worst_count.proofs.StatusBits.{Only, flags-only}
 use Rattle.worst_count.proofs.Live.{Live, live-halts, live-well}
 use Rattle.worst_count.proofs.RunOn.{lastMarks, Kept, Reached}
@@ -48,10 +47,10 @@ module _ (p : Plan) (incoming outgoing : List ℕ) (hl : 1 ≤ p .limit) (hh : H
   no-cause NotRecognised e = let z : _≡_ {A = ℕ} 0 1 = cc in absurd (omega arith)
   no-cause Timeout e = let z : _≡_ {A = ℕ} 0 1 = cc in absurd (omega arith)
   no-cause (Answered a) e =
-      let c : Passed (causeChecks (p .limit) (qmodeOf (l .command .transfer)) (l .command .ad) (s .run) a) = none-hold (causeChecks (p .limit) (qmodeOf (l .command .transfer)) (l .command .ad) (s .run) a) e in (
+      let c : Passed (causeChecks (p .limit) (qmodeOf (l .command .transfer)) (isBlock (l .command .transfer)) (l .command .ad) (s .run) a) = none-hold (causeChecks (p .limit) (qmodeOf (l .command .transfer)) (isBlock (l .command .transfer)) (l .command .ad) (s .run) a) e in (
         flags-only (p .limit) (l .command) (s .run) a (c .0) (c .1 .1 .0),
         answer-progress (p .limit) (qmodeOf (l .command .transfer)) (positionOf (l .command .transfer)) (s .run .position) (s .run .left)
-            (s .run .tries) (worstOver (p .limit) (l .post)) a (l .some) (l .tried) (l .position) (c .0) (c .1 .1 .0) (c .1 .1 .1 .1 .0),
+            (s .run .tries) (worstOver (p .limit) (l .post)) a (l .some) (l .tried) (l .position) (c .0) (c .1 .1 .0),
       )
 
   pub takes : (reply : Reply) → Reached false p incoming outgoing (takeReply (p .limit) (l .post) (l .command) reply s) (t + 1)
@@ -68,4 +67,3 @@ module _ (p : Plan) (incoming outgoing : List ℕ) (hl : 1 ≤ p .limit) (hh : H
           (doneBy (qmodeOf (l .command .transfer)) reply) (clear .1)
       by-row (code ∷ codes) e =
           ends-by p incoming outgoing s t l kept count reply (longwordOf reply) code codes (doneBy (qmodeOf (l .command .transfer)) reply)
-          (cause-numbered (p .limit) (l .command) (s .run) reply e)

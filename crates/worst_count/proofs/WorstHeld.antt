@@ -1,5 +1,5 @@
 -- The upper half of demand 3: after every sequence of calls the invariant holds of the record, and a record that waits has an operation left,
--- so that the operations made are at most W, and W of them only when the run has ended.
+-- so that the operations made are at most W, and W of them only when the run has ended. Its marks are at most B and O.
 use Prim.Native.Nat.{ℕ, _≤_}
 use mathlib.Core.Path.{_≡_, sym, ap, subst}
 use mathlib.Core.Logic.{_⊎_, inl, inr}
@@ -10,14 +10,15 @@ use lib.ListN.{length}
 use Rattle.base.specs.Bytes.{Bytes}
 use Rattle.walk.specs.Worst.{worstOver}
 use Rattle.walk.specs.Admission.{Plan, ready, prepare, countsOf, admitOf}
+use Rattle.walk.proofs.MarksGrow.{BelowMarks}
 use Rattle.walk.specs.declared.worst.Counts.{Counts}
 use Rattle.walk.specs.declared.Admission.the-variants.{Admitted}
 use Rattle.reply.specs.Effect.{State}
 use Rattle.calls.specs.Calls.{Called, startOf}
 use Rattle.worst_count.specs.WorstCount.{Calls, finds, startState, Holds}
 use Rattle.worst_count.proofs.Live.{Live}
-use Rattle.worst_count.proofs.RunOn.{Over, Reached}
-use Rattle.worst_count.proofs.Move.{live-some}
+use Rattle.worst_count.proofs.RunOn.{lastMarks, Over, Reached}
+use Rattle.worst_count.proofs.Move.{live-below, live-some}
 use Rattle.worst_count.proofs.Admitted.{SoundPlan, prepared-sound, admitted-plan}
 use Rattle.worst_count.proofs.Sequences.{refused-keeps, calls-end, calls-taken, start-taken, step-number, row-reached}
 use Rattle.worst_count.proofs.Ending.{calls-ended}
@@ -47,10 +48,16 @@ module _ (list incoming outgoing : List ℕ) (p : Plan) (prepared : prepare list
     beyond = r .kept .beyond;
     same-length = r .kept .same-length;
     same-outgoing = r .kept .same-outgoing;
+    marks-in = marks (r .stage) .incoming;
+    marks-out = marks (r .stage) .outgoing;
   }
     where
       r : Reached false p incoming outgoing s (length replies)
       r = calls-reached replies s c
+
+      marks : Live false p (s .run) ⊎ Over false p (s .run) → BelowMarks (s .run .marks) (lastMarks p)
+      marks (inl l) = live-below false p (s .run) l
+      marks (inr v) = v .below
 
       bounds : Live false p (s .run) ⊎ Over false p (s .run)
           → (length replies ≤ worstOver (p .limit) (p .visits)) × (length replies ≡ worstOver (p .limit) (p .visits) → s .run .ended ≡ true)

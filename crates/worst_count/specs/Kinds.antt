@@ -1,4 +1,4 @@
--- What a run reads of a CAMAC instruction: its Q-mode, words wanted, direction, N and A, word size and AD (document 02, E1: "Counts, packing and
+-- What a run reads of a CAMAC instruction: its Q-mode, whether it is a block, words wanted, direction, N and A, word size, AD (document 02, E1: "Counts, packing and
 -- endings are those of standard blocks, proved over both kinds together"). Only the operation wanted, calls/specs/Calls:operationOf, reads more:
 -- crate, function, the data of an inline write and whether it is enhanced. The statement is Kinds, last on this page; the proof is proofs/Alike.
 use Prim.Native.Nat.{ℕ}
@@ -9,7 +9,7 @@ use lib.Dec.{ltb}
 use Rattle.base.specs.Checks.{if_then_else_}
 use Rattle.qmodes.specs.declared.modes.QMode.{QMode}
 use Rattle.qmodes.specs.declared.modes.QMode.the-variants.{Ignore}
-use Rattle.camac.specs.Words.{isControl, qmodeOf, wordsOf, directionOf, positionOf, isSequencerAt}
+use Rattle.camac.specs.Words.{isControl, qmodeOf, isBlock, wordsOf, directionOf, positionOf, isSequencerAt}
 use Rattle.camac.specs.declared.words.Address.{Address}
 use Rattle.camac.specs.declared.words.Transfer.{Transfer}
 use Rattle.camac.specs.declared.words.Transfer.the-variants.{Block, Enhanced}
@@ -27,9 +27,10 @@ use Rattle.reply.specs.declared.replies.Reply.{Reply}
 use Rattle.calls.specs.Fit.{fitsAt}
 use Rattle.worst_count.specs.Slowest.{slowestReply}
 
--- two instructions with the same Q-mode, words wanted, direction, N and A, word size and AD
+-- two instructions with the same Q-mode, words wanted, direction, N and A, word size and AD, both blocks or neither
 pub record Alike (c d : Command) : Type 0 where
   pub qmode : qmodeOf (c .transfer) ≡ qmodeOf (d .transfer)
+  pub block : isBlock (c .transfer) ≡ isBlock (d .transfer)
   pub words : wordsOf (c .transfer) ≡ wordsOf (d .transfer)
   pub direction : directionOf (c .transfer) ≡ directionOf (d .transfer)
   pub position : positionOf (c .transfer) ≡ positionOf (d .transfer)

@@ -6,7 +6,9 @@ use mathlib.Core.Bool.{Bool, true, false}
 use mathlib.Core.List.{List, [], _∷_, _++_}
 use mathlib.Core.Option.{some}
 use lib.ListN.{length, getD}
+use lib.Dec.{eqb}
 use Rattle.base.specs.Checks.{if_then_else_, bit}
+use Rattle.qmodes.specs.Modes.{leftAfter}
 use Rattle.camac.specs.Words.{qmodeOf}
 use Rattle.camac.specs.declared.words.Command.{Command}
 use Rattle.base.specs.Bytes.{Bytes}
@@ -16,7 +18,7 @@ use Rattle.walk.specs.Admission.{Plan, ready, prepare, admitOf}
 use Rattle.walk.specs.declared.worst.Counts.{Counts}
 use Rattle.walk.specs.declared.Admission.the-variants.{Admitted}
 use Rattle.reply.specs.Replies.{replyOf, isFormed}
-use Rattle.reply.specs.Causes.{doneBy, codeOf}
+use Rattle.reply.specs.Causes.{doneBy, closedBy, codeOf}
 use Rattle.reply.specs.Status.{codeIn}
 use Rattle.reply.specs.Effect.{State}
 use Rattle.calls.specs.Calls.{startOf, stepOf}
@@ -75,14 +77,18 @@ pub record WaitsAt (p : Plan) (r : Record) (c : Command) (rest : List Visit) : T
   pub found : onFrom (r .spot) (p .visits) ≡ visit ∷ rest
   pub camac : visit .instruction ≡ Camac c
 
+-- a reply without a cause finishes an instruction: the last word done, or the block closed
+abbrev pub finishes : Command → Reply → ℕ → Bool
+finishes c x left = eqb (leftAfter (qmodeOf (c .transfer)) (doneBy (qmodeOf (c .transfer)) x) left) 0
+
 -- What a run met with the last of the replies taken, or at the start: halt, code 0, or a cause, with its code. Halt is met where no operation
--- is left: at the start, or when the last word of the last operation was done.
+-- is left: at the start, or when a reply finished the last operation.
 pub data Met (list : List ℕ) (p : Plan) (start : State) : List (List ℕ) → ℕ → Type 0 where
   halt-at-start : haltsFirst (p .visits) ≡ true → Met list p start [] 0
   halt-after : (replies : List (List ℕ)) (reply : List ℕ) (c : Command) (x : Reply) (rest : List Visit)
       → WaitsAt p (afterReplies list start replies .run) c rest → replyOf reply ≡ some x
-      → codeOf (p .limit) c (afterReplies list start replies .run) x ≡ 0 → doneBy (qmodeOf (c .transfer)) x ≡ true
-      → afterReplies list start replies .run .left ≡ 1 → haltsFirst rest ≡ true → Met list p start (replies ++ reply ∷ []) 0
+      → codeOf (p .limit) c (afterReplies list start replies .run) x ≡ 0
+      → finishes c x (afterReplies list start replies .run .left) ≡ true → haltsFirst rest ≡ true → Met list p start (replies ++ reply ∷ []) 0
   a-cause : (replies : List (List ℕ)) (reply : List ℕ) (c : Command) (x : Reply) (rest : List Visit) (code : ℕ)
       → WaitsAt p (afterReplies list start replies .run) c rest → replyOf reply ≡ some x
       → codeOf (p .limit) c (afterReplies list start replies .run) x ≡ suc code → Met list p start (replies ++ reply ∷ []) (suc code)
@@ -124,15 +130,29 @@ pub record Holds (list incoming outgoing : List ℕ) (c : Counts) (replies : Lis
   pub beyond : (i : ℕ) → c .incoming ≤ i → getD (s .incoming) i 0 ≡ getD incoming i 0
   pub same-length : length (s .incoming) ≡ length incoming
   pub same-outgoing : s .outgoing ≡ outgoing
+  -- "B and O become the most that can be stored and taken; no reply list passes them" (document 02, E8)
+  pub marks-in : s .run .marks .incoming ≤ c .incoming
+  pub marks-out : s .run .marks .outgoing ≤ c .outgoing
 
 -- no step of a row is refused
 abbrev pub NoneRefused : List ℕ → State → List (List ℕ) → Type 0
 NoneRefused list s [] = Unit {0}
 NoneRefused list s (reply ∷ replies) = (stepOf list s reply .refusal .number ≡ 0) × NoneRefused list (stepOf list s reply .state) replies
 
--- "some sequence attains W with code 0 and the mark at B", and the outgoing mark at O; none of its steps is refused
+-- no reply of a row closes a block at the instruction where it is taken
+abbrev pub NoneCloses : Plan → List ℕ → State → List (List ℕ) → Type 0
+NoneCloses p list s [] = Unit {0}
+NoneCloses p list s (reply ∷ replies) =
+    ((c : Command) (x : Reply) (rest : List Visit) → WaitsAt p (s .run) c rest → replyOf reply ≡ some x → closedBy (c .transfer) x ≡ false)
+    × NoneCloses p list (stepOf list s reply .state) replies
+
+-- "some sequence attains W with code 0 and the mark at B", and the outgoing mark at O; none of its steps is refused. It is a run "without short
+-- blocks" (E8): code 0 at W operations does not say so, for the last reply may close the last block.
 pub record Attained (list : List ℕ) (start : State) (c : Counts) : Type 0 where
   pub replies : List (List ℕ)
+  pub plan : Plan
+  pub prepared : prepare list (length (start .incoming)) (length (start .outgoing)) ≡ ready plan
+  pub none-closes : NoneCloses plan list start replies
   pub none-refused : NoneRefused list start replies
   pub made : length replies ≡ c .worst
   pub ends : afterReplies list start replies .run .ended ≡ true

@@ -1,8 +1,8 @@
-//! Edits of the definitions that the theorem is about, tried where there is no code.
+//! Edits of the definitions that the theorems are about, tried where there is no code.
 //!
-//! The definitions-only repository has of each crate that the theorem's crate reaches the
-//! definitions, the types and the law files that the theorem cites. No function is in it,
-//! so that a wrong definition is refused by the theorem or by a law that it cites.
+//! The definitions-only repository has of each crate that the theorems' crate reaches the
+//! definitions, the types and the law files that the theorems cite. No function is in it,
+//! so that a wrong definition is refused by a theorem or by a law that it cites.
 
 use std::collections::BTreeSet;
 use std::path::{Path, PathBuf};
@@ -13,10 +13,10 @@ use crate::repository::{self, Listed};
 use crate::types;
 use crate::verdict::{self, Report, Verdict};
 
-/// The crate of the theorem, the file of its proofs that has it, and its name.
+/// The crate of the theorems: the worst count, and where the words behind a short block
+/// lie. For each the file of its proofs that has it, and its name.
 pub const CRATE: &str = "worst_count";
-pub const MODULE: &str = "Bound";
-pub const THEOREM: &str = "worst-count";
+pub const THEOREMS: [(&str, &str); 2] = [("Bound", "worst-count"), ("ShortBlocks", "short-blocks")];
 
 /// A law file: `crates/CRATE/proofs/MODULE.antt`.
 type Law = (String, String);
@@ -36,10 +36,11 @@ fn cited(line: &str) -> Option<Law> {
     Some((owner.to_string(), module.to_string()))
 }
 
-/// The law files that the theorem's file cites, whatever lies between, and itself.
+/// The law files that the theorems' files cite, whatever lies between, and themselves.
 fn laws(root: &Path) -> Result<BTreeSet<Law>, String> {
     let mut found = BTreeSet::new();
-    let mut open = vec![(CRATE.to_string(), MODULE.to_string())];
+    let own = |theorem: &(&str, &str)| (CRATE.to_string(), theorem.0.to_string());
+    let mut open: Vec<Law> = THEOREMS.iter().map(own).collect();
     while let Some(law) = open.pop() {
         if found.contains(&law) {
             continue;
@@ -110,7 +111,7 @@ pub struct Base {
     folder: Temporary,
 }
 
-/// Whether the theorem is proved in a folder, and the log.
+/// Whether the theorems are proved in a folder, and the log.
 fn check(folder: &Path) -> Result<(bool, String), String> {
     let output = repository::rt(folder, &["check", CRATE])?;
     let log = String::from_utf8_lossy(&output.stdout).into_owned();
@@ -129,7 +130,7 @@ impl Base {
         build(root, folder.path())?;
         match check(folder.path())? {
             (true, _) => Ok(Base { folder }),
-            (false, log) => Err(format!("without an edit the theorem is not proved\n{log}")),
+            (false, log) => Err(format!("without an edit a theorem is not proved\n{log}")),
         }
     }
 
@@ -141,27 +142,28 @@ impl Base {
         let (is_proved, log) = check(copy.path())?;
         if is_proved {
             return Ok(Verdict::NotRefused(
-                "the theorem is still proved".to_string(),
+                "the theorems are still proved".to_string(),
             ));
         }
         Ok(judge(&verdict::reports(&log, copy.path())))
     }
 }
 
-/// Whether the theorem falls with what was refused: itself, or in a crate below its own,
-/// whose law files are those that it cites.
+/// Whether a theorem falls with what was refused: itself, or in a crate below its own,
+/// whose law files are those that the theorems cite.
 fn falls(reports: &[Report]) -> bool {
     let own = format!("crates/{CRATE}/");
     let is_lower = |r: &Report| !r.file.starts_with(&own);
-    reports.iter().any(|r| is_lower(r) || r.law == THEOREM)
+    let is_theorem = |r: &Report| THEOREMS.iter().any(|theorem| r.law == theorem.1);
+    reports.iter().any(|r| is_lower(r) || is_theorem(r))
 }
 
-/// The first error must be a fact, and the theorem must fall with it.
+/// The first error must be a fact, and a theorem must fall with it.
 fn judge(reports: &[Report]) -> Verdict {
     match (verdict::judge(reports), verdict::causes(reports).first()) {
         (Verdict::Fact(fact), Some(&first)) if *first != fact => Verdict::Misfit(first.clone()),
         (Verdict::Fact(fact), _) if !falls(reports) => {
-            Verdict::NotRefused(format!("{THEOREM} does not rest on {}", fact.law))
+            Verdict::NotRefused(format!("no theorem rests on {}", fact.law))
         }
         (judged, _) => judged,
     }
@@ -221,7 +223,7 @@ mod tests {
     }
 
     #[test]
-    fn a_law_that_the_theorem_does_not_rest_on() {
+    fn a_law_that_no_theorem_rests_on() {
         let report = |file: &str, law: &str, message: &str| Report {
             file: file.to_string(),
             line: 1,
@@ -233,7 +235,7 @@ mod tests {
         let own = report("crates/worst_count/proofs/A.antt", "a", "`omega`: no");
         let theorem = report(
             "crates/worst_count/proofs/Bound.antt",
-            THEOREM,
+            THEOREMS[0].1,
             "`a` was not admitted",
         );
         let lower = report("crates/walk/proofs/B.antt", "b", "`omega`: no");

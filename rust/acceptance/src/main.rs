@@ -36,7 +36,7 @@ fn list(root: &Path) -> Result<bool, String> {
     print("Must-fail edits, and the law that refuses each:", &code);
     let definitions = definition_rows(root)?;
     print(
-        "Edits of the definitions, and the law of the theorem that refuses each:",
+        "Edits of the definitions, and the law that refuses each:",
         &definitions,
     );
     let all = code.len() + definitions.len();

@@ -1,4 +1,4 @@
-//! The theorem refuses each edit of `acceptance/definitions` for a fact. First the
+//! A theorem refuses each edit of `acceptance/definitions` for a fact. First the
 //! definitions alone are proved; then the edits are tried, one to a processor, a line each.
 //! Words on the command line choose the edits whose names contain one of them.
 

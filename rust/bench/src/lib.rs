@@ -39,15 +39,18 @@ pub enum Answers {
     Waits,
     /// Every fourth with Q = 0.
     Skips,
+    /// Every second with Q = 0.
+    Closes,
 }
 
 impl Answers {
-    pub const ALL: [Answers; 5] = [
+    pub const ALL: [Answers; 6] = [
         Answers::Clean,
         Answers::Flagged,
         Answers::Other,
         Answers::Waits,
         Answers::Skips,
+        Answers::Closes,
     ];
 
     pub fn name(self) -> &'static str {
@@ -57,6 +60,7 @@ impl Answers {
             Answers::Other => "other",
             Answers::Waits => "waits",
             Answers::Skips => "skips",
+            Answers::Closes => "closes",
         }
     }
 
@@ -65,6 +69,7 @@ impl Answers {
         match self {
             Answers::Waits if number % 3 < 2 => X,
             Answers::Skips if number % 4 == 3 => X,
+            Answers::Closes if number % 2 == 1 => X,
             Answers::Flagged => Q | X | DERR,
             _ => Q | X,
         }
@@ -83,7 +88,7 @@ pub struct Workload {
 
 /// The lists for whole runs.
 pub fn workloads() -> Vec<Workload> {
-    let lists = [blocks_of_one_size(), singles(), mixed()];
+    let lists = [blocks_of_one_size(), singles(), mixed(), short_blocks()];
     lists.into_iter().flatten().collect()
 }
 
@@ -164,6 +169,16 @@ fn mixed() -> Vec<Workload> {
         workload("mixed singles, random", random_singles(), PLAIN),
         workload("mixed blocks, random", random_blocks(), PLAIN),
     ]
+}
+
+/// Stop blocks that bring the first of three words: the second answer closes them.
+fn short_blocks() -> Vec<Workload> {
+    let three = block(STOP | READ | BITS_16, 3);
+    vec![workload(
+        "stop blocks of 3, closed at 2",
+        vec![three; 4_095],
+        &[Answers::Closes],
+    )]
 }
 
 fn random_singles() -> Vec<DraftField> {

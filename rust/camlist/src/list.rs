@@ -64,7 +64,7 @@ impl Camac {
         self.with(BITS_16, 0)
     }
 
-    /// Q = 0 ends the run.
+    /// Q = 0 closes a [block](List::block), and ends the run in a single or an inline write.
     pub fn stop(self) -> Camac {
         self.with(Q_MODE, 0)
     }
@@ -143,12 +143,29 @@ impl List {
         self.field(0x10, &camac.first.to_le_bytes())
     }
 
-    /// So many words.
+    /// So many words. In stop they may be fewer: Q = 0 closes the block without that word, and
+    /// the list goes on at the marks reached.
+    ///
+    /// ```
+    /// use camlist::{row, run, Camac, Code, List, Reply, Status};
+    ///
+    /// let digitizer = Camac::at(3, 6, 0, 2).bits16().stop();
+    /// let list = List::new(3).block(digitizer, 100).literal(0xAABB_CCDD).halt();
+    /// let replies = [Reply::answer(7), Reply::answer(8), Reply::answer(0).no_q()];
+    /// let mut incoming = [0; 204];
+    /// let ran = run(&list, &mut incoming, &[], &row(replies))?;
+    /// assert_eq!(ran.record.status().code(), Code::NO_ERROR);
+    /// assert!(ran.record.status().has(Status::NO_Q));
+    /// assert_eq!(ran.record.incoming_mark(), 8);
+    /// assert_eq!(incoming[..8], [7, 0, 8, 0, 0xDD, 0xCC, 0xBB, 0xAA]);
+    /// # Ok::<(), camlist::Refusal>(())
+    /// ```
     pub fn block(self, camac: Camac, words: u32) -> List {
         self.double(camac.first | BLOCK, camac.count(words))
     }
 
-    /// So many words as an enhanced block: stop, ignore, repeat for reads, or the
+    /// So many words as an enhanced block: stop, in which they may be fewer as in a
+    /// [block](List::block), ignore, repeat for reads, or the
     /// [list sequencer](Camac::sequencer).
     ///
     /// ```

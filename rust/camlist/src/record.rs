@@ -4,7 +4,7 @@ use crate::ffi::RECORD_NUMBERS;
 use crate::status::Status;
 
 /// Where a run stands: document 01's thirteen numbers. It may be kept anywhere and given
-/// back to [`Run::resume`](crate::Run::resume); one that fits no run of the list is refused
+/// back to [`Run::resume`](crate::Run::resume); one that doesn't fit the list is refused
 /// there.
 ///
 /// ```
@@ -35,7 +35,7 @@ impl Record {
         self.0[1]
     }
 
-    /// Of that instruction; 0 after the end.
+    /// Of that instruction, at most: Q = 0 may close a stop block; 0 after the end.
     pub fn words_left(&self) -> u64 {
         self.0[2]
     }
@@ -54,12 +54,12 @@ impl Record {
         self.0[5]
     }
 
-    /// Incoming bytes used so far.
+    /// Incoming bytes used so far; after a halt B, or less if blocks were short.
     pub fn incoming_mark(&self) -> u64 {
         self.0[6]
     }
 
-    /// Outgoing bytes used so far.
+    /// Outgoing bytes used so far; after a halt O, or less.
     pub fn outgoing_mark(&self) -> u64 {
         self.0[7]
     }

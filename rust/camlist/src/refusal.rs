@@ -82,7 +82,8 @@ pub enum Reason {
     /// A reply, or one anywhere in a row, is not well formed; or the row is no multiple of 8
     /// bytes.
     Reply = 22,
-    /// The record does not fit the list, or one of its numbers is too wide for its part.
+    /// The record does not fit the list, or one of its numbers is too wide for its part. Its
+    /// marks fit if even and not above those of a run in which no block is short.
     Record = 23,
     /// The record's first number is not 0: its run has ended.
     Ended = 24,

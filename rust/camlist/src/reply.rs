@@ -32,7 +32,7 @@ impl Reply {
         Reply::kind(3)
     }
 
-    /// Q = 0. This and the flags below are for answers.
+    /// Q = 0, which closes a stop block. This and the flags below are for answers.
     pub fn no_q(self) -> Reply {
         self.flags(!1, 0)
     }

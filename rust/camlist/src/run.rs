@@ -11,9 +11,9 @@ use crate::status::Status;
 pub struct Counts {
     /// W, the most operations that a run can make.
     pub operations: u64,
-    /// B, the incoming bytes that a full run stores.
+    /// B, the most incoming bytes that a run can store.
     pub incoming: u64,
-    /// O, the outgoing bytes that a full run takes.
+    /// O, the most outgoing bytes that a run can take.
     pub outgoing: u64,
 }
 

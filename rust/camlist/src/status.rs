@@ -34,7 +34,7 @@ impl Status {
     pub const TRANSMISSION: Status = Status(1 << 18);
     /// X = 0.
     pub const NO_X: Status = Status(1 << 17);
-    /// Q = 0.
+    /// Q = 0, of an answer that closed a block too.
     pub const NO_Q: Status = Status(1 << 16);
     pub const ENDED: Status = Status(1 << 7);
 
@@ -64,13 +64,13 @@ impl fmt::Display for Status {
 pub struct Code(u8);
 
 impl Code {
-    /// Halt.
+    /// Halt, whether or not blocks were short.
     pub const NO_ERROR: Code = Code(0);
     /// Never: admission refuses such lists.
     pub const ILLEGAL_COMMAND: Code = Code(1);
     /// A command that reached its crate damaged: ERR with X = 1 and AD = 0.
     pub const SERIAL_ERROR: Code = Code(4);
-    /// Q = 0 in stop.
+    /// Q = 0 in stop, of a single or an inline write; it closes a stop block.
     pub const NO_Q: Code = Code(7);
     /// X = 0 with AD = 0, not in scan.
     pub const NO_X: Code = Code(8);

@@ -118,7 +118,7 @@ fn long_rows_of_few_replies() {
     let answers = [Q | X, X, Q, ERR, Q | X | TPE, X | LPE, Q | X | ERR | DERR];
     let mut letters: Vec<_> = answers.map(|flags| answer(flags, 0)).to_vec();
     letters.extend([1, 2, 3].map(kind));
-    compare_family(&letters, DEPTH, Coverage::of_stored());
+    compare_family(&letters, DEPTH, Coverage::of_long_rows());
 }
 
 /// Rows of any two replies.
@@ -126,5 +126,5 @@ fn long_rows_of_few_replies() {
 fn short_rows_of_all_replies() {
     let mut letters: Vec<_> = (0..64).map(|flags| answer(flags, 0)).collect();
     letters.extend([1, 2, 3].map(kind));
-    compare_family(&letters, 2, Coverage::of_replies());
+    compare_family(&letters, 2, Coverage::of_short_rows());
 }

@@ -1,6 +1,6 @@
 //! Steps from every record that fits a small list, and from records beside it: each number
-//! one below, at and one above its bound, each status bit, notes around both marks, numbers
-//! too wide for their part.
+//! one below, at and one above its bound, each status bit, notes around both marks, every two
+//! marks, numbers too wide for their part.
 
 mod common;
 #[path = "common/family.rs"]
@@ -10,7 +10,8 @@ use common::{compare_step, compare_steps, Given, Record};
 use family::family;
 use reference::cases::by_hand::{answer, kind, ok, DERR, ERR, LPE, Q, TPE, X};
 use reference::cases::calls::NARROW;
-use reference::cases::records::all_fitting;
+use reference::cases::records::{all_fitting, all_places};
+use reference::list::Instruction;
 use reference::walk::{admission, Admitted};
 
 /// One list in so many is looked at, in debug builds.
@@ -104,14 +105,17 @@ fn compare_list(list: &[u8], compared: &mut Compared) {
         incoming: &incoming,
         outgoing: &outgoing,
     };
-    let records = all_fitting(&admitted).into_iter();
-    for (count, record) in records.map(|record| record.numbers()).enumerate() {
-        let replies = replies();
+    let numbers = |record: reference::Record| record.numbers();
+    let replies = replies();
+    for record in all_fitting(&admitted).into_iter().map(numbers) {
         for reply in &replies {
             compared.step(&given(record), reply);
         }
         let row = replies[..8].concat();
         compare_steps(&given(record), &row, format_args!("{list:02X?} {record:?}"));
+    }
+    let places = all_places(&admitted).into_iter().map(numbers);
+    for (count, record) in places.enumerate() {
         let around = Around {
             admitted: admitted.clone(),
             record,
@@ -139,5 +143,81 @@ fn around_every_bound() {
     }
     let Compared { steps, taken } = compared;
     println!("{steps} steps, {taken} of them taken");
-    assert!(taken > 10_000 && steps > 5 * taken);
+    assert!(taken > 10_000 && steps > 3 * taken);
+}
+
+/// The places of a list, of a scan only those at its first position.
+fn first_places(admitted: &Admitted) -> Vec<Record> {
+    let is_first = |record: &reference::Record| {
+        let Instruction::Camac(camac) = admitted.list.instructions[record.instruction as usize]
+        else {
+            panic!("a place is at a CAMAC instruction");
+        };
+        record.position() == camac.position()
+    };
+    let places = all_places(admitted).into_iter().filter(is_first);
+    places.map(|record| record.numbers()).collect()
+}
+
+/// No note, and notes of both lengths in both buffers that end one below, at and one above the
+/// record's own mark and at the old one.
+fn notes_at_marks(marks: [u64; 2], old: [u64; 2]) -> Vec<[u64; 3]> {
+    let mut notes = vec![[0; 3]];
+    for buffer in [0, 1] {
+        let mark = marks[buffer];
+        for end in [mark.wrapping_sub(1), mark, mark + 1, old[buffer]] {
+            for length in [2, 4] {
+                let offset = end.checked_sub(length);
+                notes.extend(offset.map(|offset| [buffer as u64, offset, length]));
+            }
+        }
+    }
+    notes
+}
+
+/// Compares steps with every two marks up to three above those of a place, which are the old
+/// ones; how many were taken, and how many refused.
+fn compare_marks(given: &Given, taken: &mut [u64; 2]) {
+    let old = [given.record[6], given.record[7]];
+    let marks = (0..=old[0] + 3).flat_map(|mark| (0..=old[1] + 3).map(move |other| [mark, other]));
+    for marks in marks {
+        for note in notes_at_marks(marks, old) {
+            let mut record = given.record;
+            record[6..8].copy_from_slice(&marks);
+            record[10..].copy_from_slice(&note);
+            let what = format_args!("{record:?} {:02X?}", given.list);
+            let after = compare_step(&Given { record, ..*given }, &ok(7), what);
+            let even = marks.iter().all(|mark| mark % 2 == 0);
+            let below = marks[0] <= old[0] && marks[1] <= old[1];
+            let [buffer, offset, length] = note;
+            let noted = offset + length <= marks[buffer as usize];
+            let fits = even && below && noted;
+            assert_eq!(after.answer[0], if fits { 0 } else { 23 }, "{what}");
+            taken[usize::from(fits)] += 1;
+        }
+    }
+}
+
+/// E8: "to fit, each mark need only be even and no greater than the old one at its place"; the
+/// note is held against the record's own marks.
+#[test]
+fn every_two_marks() {
+    let mut taken = [0, 0];
+    for small in family().into_iter().step_by(LISTS) {
+        let list = &small.list;
+        let Ok(admitted) = admission(list, u64::MAX, u64::MAX) else {
+            continue;
+        };
+        for record in first_places(&admitted) {
+            let given = Given {
+                list,
+                record,
+                incoming: &vec![0xEE; admitted.counts.b as usize],
+                outgoing: &vec![0x12; admitted.counts.o as usize],
+            };
+            compare_marks(&given, &mut taken);
+        }
+    }
+    println!("{} steps taken, {} refused", taken[1], taken[0]);
+    assert!(taken.into_iter().all(|steps| steps > 1_000));
 }

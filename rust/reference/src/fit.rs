@@ -5,7 +5,7 @@ use crate::list::Instruction;
 use crate::record::{Note, Record};
 use crate::scan::{Position, LAST_STATION, LAST_SUBADDRESS};
 use crate::status;
-use crate::walk::{marks_before, most_operations, Admitted};
+use crate::walk::{marks_before, most_operations, Admitted, Marks};
 use crate::words::{Camac, QMode};
 
 /// What a record must be to fit a list, in the order of document 01's sentence.
@@ -88,11 +88,25 @@ fn position_fits(camac: &Camac, position: Position) -> bool {
     }
 }
 
-/// "both marks are those of the walk with the moved words".
+/// "to fit, each mark need only be even and no greater than the old one at its place" (E8).
 fn marks_fit(admitted: &Admitted, visit: usize, camac: &Camac, record: &Record) -> bool {
-    let moved = camac.words() - record.words_left;
-    let before = marks_before(&admitted.list, &admitted.walk, visit);
-    record.marks() == before.after_words(camac, moved)
+    let old = marks_at(admitted, visit, camac, record.words_left);
+    let fits = |mark: u64, old: u64| mark.is_multiple_of(2) && mark <= old;
+    fits(record.incoming_mark, old.incoming) && fits(record.outgoing_mark, old.outgoing)
+}
+
+/// The old marks at a place: "those of the walk with the moved words".
+fn marks_at(admitted: &Admitted, visit: usize, camac: &Camac, words_left: u64) -> Marks {
+    let moved = camac.words() - words_left;
+    marks_before(&admitted.list, &admitted.walk, visit).after_words(camac, moved)
+}
+
+/// The old marks at the place of a record, if it has one: its instruction is a CAMAC one on
+/// the walk and has as many words.
+pub fn old_marks(admitted: &Admitted, record: &Record) -> Option<Marks> {
+    let (visit, camac) = current(admitted, record)?;
+    let is_place = (1..=camac.words()).contains(&record.words_left);
+    is_place.then(|| marks_at(admitted, visit, &camac, record.words_left))
 }
 
 /// "operations plus the most still possible is at most W".

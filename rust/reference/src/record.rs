@@ -1,7 +1,6 @@
 //! The record (document 01, "The calls").
 
 use crate::scan::Position;
-use crate::walk::Marks;
 
 /// "The note is the buffer (0 incoming, 1 outgoing), offset and length of the last read
 /// or block or single write word moved, zeros before any".
@@ -43,13 +42,6 @@ impl Record {
         Position {
             station: self.n,
             subaddress: self.a,
-        }
-    }
-
-    pub fn marks(&self) -> Marks {
-        Marks {
-            incoming: self.incoming_mark,
-            outgoing: self.outgoing_mark,
         }
     }
 

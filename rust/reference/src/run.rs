@@ -291,7 +291,7 @@ fn take_answer(
     response: &Response,
 ) -> Record {
     let camac = current_camac(list, &record);
-    let done = word_done(camac.q_mode, response);
+    let done = word_done(&camac, response);
     let next = next_position(&camac, &record, done);
     let causes = causes(list, &camac, &record, response, next);
     record.status |= status::flags(response) | causes.flags();
@@ -307,11 +307,13 @@ fn take_answer(
         record = move_word(record, &camac, incoming, response);
         record.words_left -= 1;
         record.tries = 0;
+    } else if closes(&camac, response) {
+        record.words_left = 0;
     } else if camac.q_mode == QMode::Repeat {
         record.tries += 1;
     }
     if record.words_left == 0 {
-        // "After word n the next instruction follows".
+        // "After word n the next instruction follows", and after an answer that closes a block.
         let number = record.instruction as usize + 1;
         return go_on(list, record, number, incoming);
     }
@@ -330,11 +332,18 @@ pub(crate) fn current_camac(list: &List, record: &Record) -> Camac {
     }
 }
 
+/// "For a digitizer with fewer samples than asked, Q = 0 in a stop block is the normal end.
+/// A stop block, enhanced or standard, now finishes without moving that word, read or write,
+/// and the list goes on unless another cause ends it" (E8).
+fn closes(camac: &Camac, response: &Response) -> bool {
+    camac.is_stop_block() && !response.q
+}
+
 /// "Otherwise a word is done in stop and ignore; in repeat if Q = 1; in scan if Q = X =
 /// 1."
-fn word_done(q_mode: QMode, response: &Response) -> bool {
-    match q_mode {
-        QMode::Stop | QMode::Ignore => true,
+fn word_done(camac: &Camac, response: &Response) -> bool {
+    match camac.q_mode {
+        QMode::Stop | QMode::Ignore => !closes(camac, response),
         QMode::Repeat => response.q,
         QMode::Scan => response.q && response.x,
     }
@@ -388,8 +397,8 @@ fn causes(list: &List, camac: &Camac, record: &Record, response: &Response, next
         scan_left: next == Next::Leaves,
         // "X = 0 with AD = 0, not in scan, 8".
         no_x: !response.x && abort && camac.q_mode != QMode::Scan,
-        // "Q = 0 in stop, 7".
-        no_q: !response.q && camac.q_mode == QMode::Stop,
+        // "Q = 0 in stop, 7": "Singles and inline writes still end with 7" (E8).
+        no_q: !response.q && camac.q_mode == QMode::Stop && !camac.is_stop_block(),
         // "ERR with X = 1 and AD = 0 ends the run with code 4, in scan as well" (E4).
         damaged: response.err && response.x && abort,
     }

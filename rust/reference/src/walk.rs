@@ -10,9 +10,9 @@ use crate::words::{Camac, Direction, QMode, Transfer};
 pub struct Counts {
     /// The most operations.
     pub w: u64,
-    /// The incoming mark after every word of the walk.
+    /// The incoming mark after every word of the walk, "the most that can be stored" (E8).
     pub b: u64,
-    /// The outgoing mark after every word of the walk.
+    /// The outgoing mark after every word of the walk, the most that can be taken.
     pub o: u64,
 }
 

@@ -112,6 +112,15 @@ impl Camac {
         )
     }
 
+    /// "A stop block, enhanced or standard" (E8), of one word too.
+    pub fn is_stop_block(&self) -> bool {
+        let is_block = matches!(
+            self.transfer,
+            Transfer::Block { .. } | Transfer::Enhanced { .. }
+        );
+        is_block && self.q_mode == QMode::Stop
+    }
+
     /// Where the instruction's first operation goes.
     pub fn position(&self) -> Position {
         Position {

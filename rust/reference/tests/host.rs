@@ -61,6 +61,38 @@ fn an_enhanced_run_by_hand() {
     assert_eq!(incoming, [0xBC, 0x9A]);
 }
 
+/// E8: three 16-bit words asked for, of which one comes, in steps and in one whole run; then a
+/// literal, and a 24-bit word that is written.
+#[test]
+fn a_short_run_by_hand() {
+    let literal = "21 04 00 DD CC BB AA ";
+    let fields = double(0x0C02_0322, 0xFFFF_FFFD) + literal + &single(0x0C10_0300);
+    let (list, outgoing) = (one(&fields), [0x56, 0x34, 0x12, 0x99]);
+    let mut incoming = [0xEE; 12];
+    let (mut record, answer) = start_numbers(&list, &mut incoming, &outgoing);
+    assert_eq!(record, [0, 0, 3, 0, 6, 0, 0, 0, 0, 0, 0, 0, 0]);
+    assert_eq!(answer, [0, 0, 3, 6, 0, 2, 0, 0]);
+    let row = [ok(0x1234), answer_without_q()].concat();
+    let answer = steps_numbers(&list, &mut record, &mut incoming, &outgoing, &row);
+    let waiting = [0, 2, 1, 0, 6, 0, 8, 0, 2, 0x1_0000, 0, 0, 2];
+    assert_eq!(record, waiting);
+    assert_eq!(answer, [0, 0, 2, 3, 6, 0, 16, 0x12_3456, 0]);
+    let stored = hex("34 12 00 00 DD CC BB AA EE EE EE EE");
+    assert_eq!(incoming[..], stored);
+    let mut incoming = [0xEE; 12];
+    let [0, 0, 2, whole @ ..] = run_numbers(&list, &mut incoming, &outgoing, &row) else {
+        panic!("two replies taken");
+    };
+    assert_eq!((whole, &incoming[..]), (waiting, &stored[..]));
+    let answer = step_numbers(&list, &mut record, &mut incoming, &outgoing, &ok(0));
+    assert_eq!(answer, [0; 8]);
+    assert_eq!(record, [1, 3, 0, 0, 0, 0, 8, 4, 3, 0x1_0080, 1, 0, 4]);
+}
+
+fn answer_without_q() -> [u8; 8] {
+    answer(X, 0x56_5656)
+}
+
 /// An empty row changes nothing and says what is wanted.
 #[test]
 fn steps_over_no_reply() {

@@ -118,3 +118,21 @@ fn the_sum_is_the_test_for_even_marks() {
         assert_eq!(sum, mark.next_multiple_of(4));
     }
 }
+
+/// E8: a mark no greater stays so: the padding keeps the order of even marks. Of odd ones it
+/// doesn't: 6 has its word at 8, 7 at 7.
+#[test]
+fn pads_keep_the_order_of_even_marks() {
+    for length in [2, 4] {
+        for old in (0..=64).step_by(2) {
+            for mark in (0..=old).step_by(2) {
+                for words in 0..=3 {
+                    let after = mark_after_words(mark, length, words);
+                    assert!(after <= mark_after_words(old, length, words));
+                    assert_eq!(after % 2, 0);
+                }
+            }
+        }
+    }
+    assert!(offset(6, 4) > offset(7, 4));
+}

@@ -2,17 +2,17 @@
 
 use std::collections::HashMap;
 
-use reference::cases::by_hand::{ERR, Q, X};
+use reference::cases::by_hand::{ERR, LPE, Q, TPE, X};
 use reference::cases::lists::{self, Draft, DraftField, BLOCK, ENHANCED, Q_MODE};
 use reference::cases::records::{fitting, step_case, StepCase};
 use reference::cases::rng::Rng;
 use reference::cases::rows::{row, slowest, Manner, MANNERS};
-use reference::fit::{fits, most_still_possible};
+use reference::fit::{broken_clause, fits, most_still_possible, Clause};
 use reference::list::Instruction;
 use reference::scan::Position;
 use reference::walk::{admission, Admitted};
-use reference::words::{decode, Camac};
-use reference::{run_row, start, step, Answer, Record};
+use reference::words::{decode, Camac, QMode, Transfer};
+use reference::{run_row, start, step, Answer, Note, Record};
 
 const CASES: u64 = if cfg!(debug_assertions) {
     3_000
@@ -37,13 +37,15 @@ fn small_list(rng: &mut Rng) -> (Vec<u8>, Admitted) {
 }
 
 /// Demand 3, upper half: along any run operations stay within W, the incoming mark within
-/// B, nothing is written at B or after, and the record always fits.
+/// B, nothing is written at B or after, and the record always fits. E8: "B and O become the
+/// most that can be stored and taken; no reply list passes them".
 #[test]
 fn runs_stay_within_w_and_b() {
     let mut rng = Rng::new(3);
     for _ in 0..CASES / 10 {
         let (list, admitted) = small_list(&mut rng);
-        let row = row(&mut rng, &admitted, Manner::Risky, 100);
+        let manner = rng.pick(&MANNERS);
+        let row = row(&mut rng, &admitted, manner, 100);
         let b = admitted.counts.b as usize;
         let mut incoming = vec![0xEE; b + 4];
         let outgoing = rng.bytes(admitted.counts.o as usize);
@@ -65,7 +67,8 @@ fn runs_stay_within_w_and_b() {
 }
 
 /// Demand 3, attained half: the slowest replies make W operations, fill B bytes and end
-/// with code 0.
+/// with code 0. E8: "some run without short blocks reaches them along with W": none of these
+/// replies has Q = 0 in stop.
 #[test]
 fn the_slowest_replies_reach_w_and_b() {
     let mut rng = Rng::new(4);
@@ -290,6 +293,117 @@ fn is_damaged(case: &StepCase) -> bool {
         return false;
     };
     case.reply[1] & (X | ERR) == X | ERR && !camac.abort_disable
+}
+
+/// Whether a case's reply is an answer with Q = 0 in stop, and its instruction.
+fn without_q(case: &StepCase) -> Option<Camac> {
+    let admitted = admission(&case.list, u64::MAX, u64::MAX).expect("admitted");
+    let number = case.record.instruction as usize;
+    match admitted.list.instructions[number] {
+        Instruction::Camac(camac) if camac.q_mode == QMode::Stop => {
+            (case.reply[0] == 0 && case.reply[1] & Q == 0).then_some(camac)
+        }
+        _ => None,
+    }
+}
+
+/// The code that such an answer ends the run with, 7 aside.
+fn code_but_7(camac: &Camac, reply: &[u8]) -> Option<u32> {
+    let flags = reply[1];
+    match camac.abort_disable {
+        true => None,
+        false if flags & (TPE | LPE) != 0 => Some(0xA),
+        false if flags & X == 0 => Some(8),
+        false if flags & ERR != 0 => Some(4),
+        false => None,
+    }
+}
+
+/// E8: Q = 0 closes a stop block unless another cause ends the run, and ends it with 7 in singles
+/// and inline writes. In no case a word is moved.
+#[test]
+fn q_0_in_stop_moves_no_word() {
+    let (mut closed, mut ended) = (0, 0);
+    for (case, answer, incoming) in taken(13) {
+        let Some(camac) = without_q(&case) else {
+            continue;
+        };
+        let (before, after) = (case.record, answer.record);
+        let is_block = match camac.transfer {
+            Transfer::Block { .. } | Transfer::Enhanced { .. } => true,
+            Transfer::Single | Transfer::Inline { .. } => false,
+            Transfer::Sequencer { .. } => panic!("a sequencer is not stop"),
+        };
+        let code = match code_but_7(&camac, &case.reply) {
+            code if is_block => code,
+            code => code.max(Some(7)),
+        };
+        assert_eq!(after.note, before.note, "{case:?}");
+        assert_eq!(after.outgoing_mark, before.outgoing_mark, "{case:?}");
+        assert_eq!(after.operations, before.operations + 1, "{case:?}");
+        assert_ne!(after.status & 1 << 16, 0, "{case:?}");
+        let mark = before.incoming_mark as usize;
+        assert_eq!(incoming[..mark], case.incoming[..mark], "{case:?}");
+        if let Some(code) = code {
+            assert_eq!((after.ended, after.status >> 28), (true, code), "{case:?}");
+            assert_eq!(after.instruction, before.instruction, "{case:?}");
+            assert_eq!(after.incoming_mark, before.incoming_mark, "{case:?}");
+            assert_eq!(incoming, case.incoming, "{case:?}");
+            ended += 1;
+        } else {
+            assert_eq!(after.status >> 28, 0, "{case:?}");
+            assert_ne!(after.instruction, before.instruction, "{case:?}");
+            closed += 1;
+        }
+    }
+    assert!(closed > CASES / 200 && ended > CASES / 200);
+}
+
+/// E8: "each mark need only be even and no greater than the old one at its place", for every
+/// list and each mark by itself. The old marks are those of a run with clean answers.
+#[test]
+fn every_two_marks_around_the_old_ones() {
+    let mut rng = Rng::new(14);
+    // Marks that don't fit, and that do.
+    let mut tried = [0, 0];
+    for _ in 0..CASES / 40 {
+        let (list, admitted) = small_list(&mut rng);
+        if admitted.counts.b.max(admitted.counts.o) > 40 {
+            continue;
+        }
+        let mut incoming = vec![0; admitted.counts.b as usize];
+        let outgoing = vec![0; admitted.counts.o as usize];
+        let mut old = start(&list, &mut incoming, &outgoing).record;
+        while !old.ended {
+            for incoming_mark in 0..old.incoming_mark + 4 {
+                let fitting = try_marks(&admitted, &old, incoming_mark);
+                tried[1] += fitting;
+                tried[0] += old.outgoing_mark + 4 - fitting;
+            }
+            let done = [0, Q | X, 0, 0, 0, 0, 0, 0];
+            old = step(&list, &old, &mut incoming, &outgoing, &done).record;
+        }
+    }
+    assert!(tried.into_iter().all(|tried| tried > CASES));
+}
+
+/// Tries an incoming mark with each outgoing one; how many fit.
+fn try_marks(admitted: &Admitted, old: &Record, incoming_mark: u64) -> u64 {
+    let fits = |mark: u64, old: u64| mark.is_multiple_of(2) && mark <= old;
+    let mut fitting = 0;
+    for outgoing_mark in 0..old.outgoing_mark + 4 {
+        let record = Record {
+            incoming_mark,
+            outgoing_mark,
+            note: Note::default(),
+            ..*old
+        };
+        let both = fits(incoming_mark, old.incoming_mark) && fits(outgoing_mark, old.outgoing_mark);
+        let broken = (!both).then_some(Clause::Marks);
+        assert_eq!(broken_clause(admitted, &record), broken, "{record:?}");
+        fitting += u64::from(both);
+    }
+    fitting
 }
 
 /// E9: a 24-bit word is stored with Q in bit 31 and X in bit 30 of its own answer, bits 29 to 24

@@ -68,6 +68,22 @@ fn camrun_of_24_bit_words_and_a_literal() {
     assert_eq!(lines(&list_with(1, &block), &row, &[]), printed);
 }
 
+/// E8: the digitizer's block is short, and the list goes on.
+#[test]
+fn camrun_of_a_short_block() {
+    let printed = [
+        "admitted 5 16 0",
+        "op 1 1 1 0 0",
+        "op 2 1 1 0 0",
+        "op 3 1 1 0 0",
+        "op 4 1 1 0 0",
+        "end 0 00010080 4 12",
+    ];
+    let blocks = double(0x0200_0122, 0xFFFF_FFFD) + &double(0x0200_0120, 0xFFFF_FFFC) + HALT;
+    let row = answers(&[Q | X, X, Q | X, Q | X]);
+    assert_eq!(lines(&list_with(1, &blocks), &row, &[]), printed);
+}
+
 /// Each file is cut before anything looks at it.
 #[test]
 fn camrun_cuts_its_files() {
@@ -221,6 +237,10 @@ fn records_that_do_not_fit() {
         },
         ..fine
     };
+    let below = |incoming_mark, record: Record| Record {
+        incoming_mark,
+        ..record
+    };
     assert_eq!(
         fine.numbers(),
         [0, 2, 1, 1, 6, 0, 4, 0, 3, 0x1_0000, 0, 0, 4]
@@ -230,6 +250,9 @@ fn records_that_do_not_fit() {
         with(|r| r.tries = 2),
         with(|r| r.status = 0x04B7_0000),
         with(|r| r.status = 1 << 18),
+        below(2, note(0, 0, 2)),
+        below(2, note(0, 0, 0)),
+        below(0, note(0, 0, 0)),
         note(0, 0, 0),
         note(0, 0, 2),
         note(0, 1, 2),
@@ -251,6 +274,14 @@ fn records_that_do_not_fit() {
         with(|r| r.n = 7),
         with(|r| r.a = 1),
         with(|r| r.incoming_mark = 6),
+        with(|r| r.incoming_mark = 5),
+        with(|r| r.incoming_mark = 2),
+        below(3, note(0, 0, 0)),
+        below(1, note(0, 0, 0)),
+        below(2, note(0, 1, 2)),
+        below(2, note(0, 2, 2)),
+        below(0, note(0, 0, 2)),
+        with(|r| r.outgoing_mark = 1),
         with(|r| r.outgoing_mark = 2),
         with(|r| r.operations = 5),
         with(|r| r.operations = u64::MAX),

@@ -214,6 +214,40 @@ fn enhanced_blocks() {
     }
 }
 
+/// E8: "A stop block, enhanced or standard", of one word too; singles and inline writes in stop
+/// are none, nor is the list sequencer.
+#[test]
+fn stop_blocks() {
+    let is_stop_block = |first, second| {
+        let camac = decode(first, second).expect("a word");
+        camac.is_stop_block()
+    };
+    let mut blocks = 0;
+    for bits in 0..32_u32 {
+        let (ad, size) = (bits & 1, bits & 2);
+        let q_mode = bits >> 2 & 3;
+        for function in [2, 16] {
+            let low = 0x0100 | q_mode << 3 | size | ad;
+            let naf = 6 << 25 | function << 16 | low;
+            assert!(!is_stop_block(naf, None));
+            for words in [1, 3] {
+                let halfwords = if size == 0 { 2 * words } else { words };
+                let standard = is_stop_block(naf | 1 << 5, count(halfwords));
+                assert_eq!(standard, q_mode == 0);
+                if q_mode < 2 {
+                    let enhanced = is_stop_block(naf | 2 << 5, count(halfwords));
+                    assert_eq!(enhanced, q_mode == 0);
+                }
+                blocks += u64::from(standard);
+            }
+            let write = naf & !(31 << 16) | 16 << 16;
+            assert!(!is_stop_block(write | 3 << 5, Some(7)));
+        }
+    }
+    assert!(blocks > 0);
+    assert!(!is_stop_block(0x3C0C_0158, count(2)));
+}
+
 /// The refusal that document 02 has for a word of transfer mode 2 and length 8 with a right
 /// second longword.
 fn enhanced_refusal(station: u32, function: u32, subaddress: u32, q_mode: u32) -> Option<u8> {

@@ -1,6 +1,6 @@
 -- One reply at one operation without the walk behind its last word, one visit of the walk, and what code answers by its own types.
 -- Nothing here is a rule of document 01: the laws TakeHere and Onward join these definitions to those that are.
-use Prim.Native.Nat.{ℕ, _-_, _^_, _≤_, _<_}
+use Prim.Native.Nat.{ℕ, _^_, _≤_, _<_}
 use mathlib.Core.Bool.{Bool, true, false, _&&_}
 use mathlib.Core.List.{List}
 use lib.Dec.{eqb}
@@ -15,7 +15,7 @@ use Rattle.listfile.specs.declared.field.Instruction.the-variants.{Camac, Jump,
 use Rattle.walk.specs.Walk.{spotAfter, jumpTo, Visit, movedBy, moved}
 use Rattle.reply.specs.Causes.{doneBy, causesOf, codeOf, onlyNine}
 use Rattle.reply.specs.Effect.{State, endedAt, waitsFor, withMarks, runOn, longwordOf, movedRecord, movedBytes, counted, waiting, stateOf}
-use Rattle.qmodes.specs.Modes.{triesAfter, positionAfter}
+use Rattle.qmodes.specs.Modes.{leftAfter, triesAfter, positionAfter}
 use Rattle.reply.specs.declared.replies.Reply.{Reply}
 use Rattle.reply.specs.declared.records.Record.{Record}
 use Rattle.take.specs.declared.Taken.{Taken}
@@ -46,16 +46,16 @@ onward c isDone left before r =
     (positionAfter (qmodeOf (c .transfer)) isDone (before .position))
     r
 
--- no cause: the same operation waits on, or its last word is through
-unfoldable pub onRun : Command → Bool → Record → Record → Taken
-onRun c true before r =
-    if eqb (before .left) 1 then Through (movedRecord c r) else Same (onward c true (before .left - 1) before (movedRecord c r))
-onRun c false before r = Same (onward c false (before .left) before r)
-
 -- the record and the incoming buffer after one word, where it moves
 abbrev pub movedIf : Bool → Command → Record → Record
 movedIf true c r = movedRecord c r
 movedIf false c r = r
+
+-- no cause: the same operation waits on, or it is through
+unfoldable pub onRun : Command → Bool → Record → Record → Taken
+onRun c isDone before r =
+    let left : ℕ = leftAfter (qmodeOf (c .transfer)) isDone (before .left) in
+    if eqb left 0 then Through (movedIf isDone c r) else Same (onward c isDone left before (movedIf isDone c r))
 
 abbrev pub bytesIf : Bool → Command → ℕ → ℕ → List ℕ → List ℕ
 bytesIf true c word mark buffer = movedBytes c word mark buffer

@@ -6,6 +6,9 @@
  * The lists of a pair: a block of 16-bit words, the instructions of the case, a second block of 16-bit words, halt. The blocks have 3 and 4 words or
  * 4 and 3, so that the worst count is the same and the first one leaves a mark of 6 or 8. A call on a record begins behind the first block. A whole
  * run makes both blocks, the longer one first or last: there each instruction must be run as often, in whatever order.
+ *
+ * With a short block both lists of a pair are the same: the first block asks for more words, and Q = 0 closes it behind 3 or 4 of them, before the call
+ * or by it. Whole runs are not among these, since their rows would have Q = 0 in other places.
  */
 #define _GNU_SOURCE /* for REG_RIP */
 #include "camlist.h"
@@ -17,10 +20,13 @@
 #include <x86intrin.h>
 
 enum { CRATE = 1, STATION = 6, TRY_LIMIT = 3, READ = 2, WRITE = 16, CLEAN = CAMLIST_Q | CAMLIST_X };
-enum { ODD = 3, EVEN = 4, WIDE_BLOCK = 4, SCAN_WORDS = 2, MOST_REPLIES = 16, LIST_ROOM = 64, BUFFER = 64 };
+enum { ODD = 3, EVEN = 4, ASKED = 8, WIDE_BLOCK = 4, SCAN_WORDS = 2, MOST_REPLIES = 16, LIST_ROOM = 64, BUFFER = 64 };
 enum { SHORTEST = 100, LONGEST = 1 << 14, TRAP_FLAG = 1 << 8 };
 
 enum kind { ADMIT, STEP, STEPS, RUN };
+
+/* The first block of a pair's lists: whole, closed before the call, or closed by it. */
+enum first_block { WHOLE, CLOSED, CLOSING };
 
 struct test_case {
     const char *name;
@@ -82,6 +88,30 @@ static const struct test_case cases[] = {
     {"run: 24-bit sequencer, read", RUN, READ, "q", 0, WIDE_BLOCK},
 };
 
+/* Behind a block that was closed before the call. */
+static const struct test_case behind_closed[] = {
+    {"step: 16-bit read behind a short block", STEP, READ, "n", 0, 1},
+    {"step: 24-bit read behind a short block", STEP, READ, "w", 0, 1},
+    {"step: 24-bit read block behind a short block", STEP, READ, "b", 0, 1},
+    {"step: 16-bit read, literal next, short block", STEP, READ, "nl", 0, 1},
+    {"step: 24-bit write behind a short block", STEP, WRITE, "w", 0, 1},
+    {"step: 24-bit write block behind a short block", STEP, WRITE, "b", 0, 1},
+    {"steps: 24-bit read behind a short block", STEPS, READ, "w", 0, 1},
+    {"steps: 24-bit read block behind a short block", STEPS, READ, "b", 0, WIDE_BLOCK},
+    {"steps: 24-bit write behind a short block", STEPS, WRITE, "w", 0, 1},
+    {"steps: 24-bit write block behind a short block", STEPS, WRITE, "b", 0, WIDE_BLOCK},
+};
+
+/* The call is given the answer that closes the block, and then the replies. */
+static const struct test_case closing[] = {
+    {"step: block closed, 24-bit read next", STEP, READ, "w", 0, 0},
+    {"step: block closed, literal next", STEP, READ, "l", 0, 0},
+    {"step: block closed, 24-bit write next", STEP, WRITE, "w", 0, 0},
+    {"steps: block closed, literal next", STEPS, READ, "l", 0, 0},
+    {"steps: block closed, 24-bit read", STEPS, READ, "w", 0, 1},
+    {"steps: block closed, 24-bit write", STEPS, WRITE, "w", 0, 1},
+};
+
 /* Pairs whose traces must differ: words of 16 and of 24 bits. */
 static const struct test_case different[][2] = {
     {{"step: reads of 16 and 24 bits", STEP, READ, "n", 0, 1}, {"", STEP, READ, "w", 0, 1}},
@@ -136,6 +166,7 @@ void *__wrap_memset(void *to, int byte, size_t length)
 
 static uint8_t list_room[LIST_ROOM], row_room[MOST_REPLIES * CAMLIST_REPLY_BYTES], incoming[BUFFER], outgoing[BUFFER];
 static camlist_bytes list, row;
+static enum first_block first_block;
 static uint64_t record[CAMLIST_RECORD_NUMBERS], answer[CAMLIST_RUN_NUMBERS];
 
 /* A letter for each: a single of 16 bits (n) or 24 (w), a block of 24-bit words (b), the same as a scan (s), enhanced (e) or by the list
@@ -158,18 +189,27 @@ static void put_between(const char *between, unsigned f)
 
 static void put_list(const struct test_case *of, unsigned first)
 {
+    int is_whole = first_block == WHOLE;
+
     list = (camlist_bytes){list_room, sizeof list_room, 0, 0};
     camlist_put_head(&list, TRY_LIMIT);
-    camlist_put_block(&list, CRATE, STATION, 0, of->f, CAMLIST_STOP | CAMLIST_16_BIT, first);
+    camlist_put_block(&list, CRATE, STATION, 0, of->f, CAMLIST_STOP | CAMLIST_16_BIT, is_whole ? first : ASKED);
     put_between(of->between, of->f);
-    camlist_put_block(&list, CRATE, STATION, 0, of->f, CAMLIST_STOP | CAMLIST_16_BIT, ODD + EVEN - first);
+    camlist_put_block(&list, CRATE, STATION, 0, of->f, CAMLIST_STOP | CAMLIST_16_BIT, is_whole ? ODD + EVEN - first : ODD);
     camlist_put_halt(&list);
 }
 
-static void put_row(unsigned replies)
+/* Words, an answer that closes a block or none, words. */
+static void put_row(unsigned words, int is_closed, unsigned more)
 {
     row = (camlist_bytes){row_room, sizeof row_room, 0, 0};
-    while (replies-- > 0) {
+    while (words-- > 0) {
+        camlist_put_answer(&row, CLEAN, 0x563412);
+    }
+    if (is_closed) {
+        camlist_put_answer(&row, CAMLIST_X, 0x999999);
+    }
+    while (more-- > 0) {
         camlist_put_answer(&row, CLEAN, 0x563412);
     }
 }
@@ -192,10 +232,10 @@ static void check_taken(const struct test_case *of)
 static void begin(const struct test_case *of, unsigned first)
 {
     int mark = of->f == READ ? CAMLIST_RECORD_INCOMING_MARK : CAMLIST_RECORD_OUTGOING_MARK;
-    int is_behind_first = of->before == 0 && of->between[0] != 'l';
+    int is_behind_first = first_block == CLOSING || (of->before == 0 && of->between[0] != 'l');
 
     put_list(of, first);
-    put_row(first + of->before);
+    put_row(first, first_block == CLOSED, of->before);
     camlist_start(list.bytes, list.length, incoming, sizeof incoming, outgoing, sizeof outgoing, record, answer);
     check_taken(of);
     camlist_steps(list.bytes, list.length, record, incoming, sizeof incoming, outgoing, sizeof outgoing, row.bytes, row.length, answer);
@@ -213,7 +253,7 @@ static void trace_call(const struct test_case *of, unsigned first, struct trace 
     begin(of, first);
     trace->length = 0;
     tracing = trace;
-    put_row(of->kind == RUN ? ODD + EVEN + of->replies : of->replies);
+    put_row(of->kind == RUN ? ODD + EVEN : 0, first_block == CLOSING, of->replies);
     __writeeflags(__readeflags() | TRAP_FLAG);
     switch (of->kind) {
     case ADMIT: camlist_admit(list.bytes, list.length, sizeof incoming, sizeof outgoing, answer); break;
@@ -271,6 +311,19 @@ static int compare(const struct test_case *a, unsigned first, const struct test_
     return is_same(a->name);
 }
 
+/* How many of some cases are not as they must be. */
+static int compare_all(enum first_block of, const struct test_case *some, size_t count)
+{
+    size_t i;
+    int wrong = 0;
+
+    first_block = of;
+    for (i = 0; i < count; i++) {
+        wrong += !compare(&some[i], ODD, &some[i], EVEN);
+    }
+    return wrong;
+}
+
 int main(void)
 {
     struct sigaction action = {0};
@@ -280,9 +333,9 @@ int main(void)
     action.sa_sigaction = on_trap;
     action.sa_flags = SA_SIGINFO;
     sigaction(SIGTRAP, &action, NULL);
-    for (i = 0; i < sizeof cases / sizeof cases[0]; i++) {
-        wrong += !compare(&cases[i], ODD, &cases[i], EVEN);
-    }
+    wrong += compare_all(CLOSED, behind_closed, sizeof behind_closed / sizeof behind_closed[0]);
+    wrong += compare_all(CLOSING, closing, sizeof closing / sizeof closing[0]);
+    wrong += compare_all(WHOLE, cases, sizeof cases / sizeof cases[0]);
     for (i = 0; i < sizeof different / sizeof different[0]; i++) {
         wrong += compare(&different[i][0], EVEN, &different[i][1], EVEN);
     }

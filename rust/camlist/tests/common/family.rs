@@ -10,6 +10,7 @@ const READ: u32 = 2 << 16;
 const WRITE: u32 = 16 << 16;
 const CONTROL: u32 = 24 << 16;
 const SEQUENCER: u32 = 12 << 16;
+const STOP: u32 = 0;
 const REPEAT: u32 = 2;
 const SCAN: u32 = 3;
 
@@ -49,16 +50,18 @@ fn block(first: u32, words: u32) -> DraftField {
     DraftField::camac(first, Some((words * size).wrapping_neg()))
 }
 
-/// Enhanced blocks of up to two words, the refused repeat write among them; with Q-mode 3, the
-/// four lists of the sequencer.
+/// Enhanced blocks of up to two words, in stop three, the refused repeat write among them; with
+/// Q-mode 3, the four lists of the sequencer.
 fn enhanced(bits: u32) -> Vec<DraftField> {
-    let firsts: Vec<u32> = match bits >> 3 & 3 {
+    let q_mode = bits >> 3 & 3;
+    let firsts: Vec<u32> = match q_mode {
         SCAN => (0..4).map(|a| 30 << 25 | a << 21 | SEQUENCER).collect(),
         _ => [READ, WRITE]
             .map(|function| 6 << 25 | 1 << 21 | function)
             .to_vec(),
     };
-    let blocks = |first| (1..=2).map(move |words| block(first | bits | ENHANCED, words));
+    let most = if q_mode == STOP { 3 } else { 2 };
+    let blocks = |first| (1..=most).map(move |words| block(first | bits | ENHANCED, words));
     firsts.into_iter().flat_map(blocks).collect()
 }
 

@@ -164,7 +164,10 @@ fn fitting_record(admitted: &Admitted, numbers: &[u64; 13]) -> Option<Record> {
 /// A reply that the record is likely to meet, spoilt now and then, or of another length.
 fn reply_for(rng: &mut Rng, admitted: &Admitted, numbers: &[u64; 13]) -> Vec<u8> {
     let reply = match fitting_record(admitted, numbers) {
-        Some(record) if rng.coin() => rows::next_reply(rng, admitted, &record, Manner::Marked),
+        Some(record) if rng.coin() => {
+            let manner = rng.pick(&[Manner::Marked, Manner::Short]);
+            rows::next_reply(rng, admitted, &record, manner)
+        }
         _ => rows::any_reply(rng),
     };
     match rng.below(20) {

@@ -1,5 +1,7 @@
 //! What a set of cases has met. A comparison that never met one of these proves little.
 
+mod short;
+
 use std::collections::BTreeMap;
 
 use super::calls::{CallCase, Origin, NARROW};
@@ -18,6 +20,7 @@ use crate::run::{begin, current_camac, take};
 use crate::status;
 use crate::walk::{admission, Admitted};
 use crate::words::{enhanced_fault, Camac, Direction, EnhancedFault, QMode, Transfer, WordSize};
+pub use short::{Buffer, ClosedAt, Follower, StopBlock};
 
 /// A scan's positions from N 1, A 0.
 const MOST_POSITIONS: u64 = 368;
@@ -50,8 +53,9 @@ pub enum Event {
     Waiting,
     /// A row with replies past the run's end.
     RepliesPastEnd,
-    /// A run that made W operations and ended with code 0.
+    /// A run that made W operations and ended with code 0 and the marks B and O; with less.
     WorstCount,
+    WorstCountShort,
     /// A run with both buffers as long as B and O, or with one that is longer.
     ExactBuffers,
     LongerBuffer,
@@ -122,6 +126,26 @@ pub enum Event {
     ErrSaved,
     /// A scan's answer with ERR and X = 0 that ended nothing, AD = 0.
     ScanSkipsErr,
+    /// A stop block that Q = 0 closed, by what it is, by the word, and by what follows.
+    ShortBlock(StopBlock),
+    ClosedAt(Mode, ClosedAt),
+    ClosedBefore(Follower),
+    /// The same before a literal that has a pad, and one that has none.
+    ClosedBeforePad,
+    ClosedBeforeNoPad,
+    /// A stop block closed with X = 0, with a parity error or with ERR and X = 1: AD = 1.
+    ClosedWithoutX,
+    ClosedWithParity,
+    ClosedWithErr,
+    /// Q = 0 in a stop block under this code, which ended the run.
+    NotClosed(u8),
+    /// Q = 0 that ended the run with 7 in this transfer mode, by AD.
+    EndedWithoutQ(Mode, bool),
+    /// A reply taken where this buffer's mark is below the old one.
+    LowerMark(Buffer),
+    /// A 24-bit word moved there with a pad that the old mark hasn't, and without one that it has.
+    LowerMarkPads(Buffer),
+    LowerMarkAligned(Buffer),
     /// A 24-bit word stored in this transfer mode and Q-mode with these Q and X.
     StoredWide(Mode, u8, Qx),
     /// The same with code 9, where Q = X = 1.
@@ -136,6 +160,11 @@ pub enum Event {
     Stepped(Origin),
     /// Refusal 23 by this clause.
     Unfit(Clause),
+    /// Refusal 23 by a mark that is odd, or above the old one.
+    OddMark(Buffer),
+    MarkAbove(Buffer),
+    /// Refusal 23 by a note above its buffer's mark that the old mark would do for.
+    NoteAboveMark(Buffer),
     /// Refusal 23 by a number of the record, counted from 0, that is too wide.
     TooWide(usize),
     /// Refusal 24 where the record's first number is neither 0 nor 1.
@@ -166,6 +195,7 @@ impl Coverage {
             Event::Waiting,
             Event::RepliesPastEnd,
             Event::WorstCount,
+            Event::WorstCountShort,
             Event::ExactBuffers,
             Event::LongerBuffer,
             Event::FullList,
@@ -178,23 +208,43 @@ impl Coverage {
             Event::LongSequencer,
         ];
         let events = refusals.chain(plain).chain(of_operations());
+        let events = events.chain(short::of_followers());
+        let events = events.chain(short::of_lower_marks());
+        let events = events.chain(short::of_lower_pads());
         Coverage::expecting(events.chain(of_enhanced_words()))
     }
 
     /// Counters for cases of step, whose lists are all valid.
     pub fn of_steps() -> Coverage {
         let refusals = [20, 22, 23, 24].map(Event::Refusal);
-        Coverage::expecting(refusals.into_iter().chain(of_operations()))
+        let events = refusals.into_iter().chain(of_operations());
+        let events = events.chain(short::of_followers());
+        let events = events.chain(short::of_lower_marks());
+        Coverage::expecting(events.chain(short::of_lower_pads()))
     }
 
     /// Counters for single replies to records that fit.
     pub fn of_replies() -> Coverage {
+        let events = of_operations().chain(short::of_lower_marks());
+        Coverage::expecting(events.chain(short::of_lower_pads()))
+    }
+
+    /// Counters for rows of any two replies.
+    pub fn of_short_rows() -> Coverage {
         Coverage::expecting(of_operations())
     }
 
-    /// Counters for words stored.
-    pub fn of_stored() -> Coverage {
-        Coverage::expecting(of_stored_words())
+    /// Counters for longer rows: words stored and blocks closed.
+    pub fn of_long_rows() -> Coverage {
+        Coverage::expecting(of_stored_words().chain(short::of_blocks()))
+    }
+
+    /// Counters for runs with a stop block that is closed.
+    pub fn of_short_runs() -> Coverage {
+        let events = short::of_blocks().chain(short::of_closing_flags());
+        let events = events.chain(short::of_followers()).chain(short::of_pads());
+        let events = events.chain(short::of_lower_marks());
+        Coverage::expecting(events.chain(short::of_lower_pads()))
     }
 
     /// Counters for cases of start, step and steps.
@@ -226,6 +276,9 @@ impl Coverage {
             Event::StepsPastEnd,
         ];
         let events = of_operations().chain(of_enhanced_words()).chain(plain);
+        let events = events.chain(short::of_followers());
+        let events = events.chain(short::of_lower_marks());
+        let events = events.chain(short::of_unfit_marks());
         let events = events.chain(refusals().map(Event::Refusal));
         let events = events.chain(refusals().map(Event::StepsRefused));
         let events = events.chain(clauses.map(Event::Unfit));
@@ -344,8 +397,13 @@ impl Coverage {
         }
         self.met_if(taken == 0, Event::End(0));
         self.met_if(taken < replies.len(), Event::RepliesPastEnd);
-        let worst = record.operations == admitted.counts.w && taken > 0;
-        self.met_if(worst && status::code(record.status) == 0, Event::WorstCount);
+        let code = status::code(record.status);
+        if record.operations == admitted.counts.w && taken > 0 && code == 0 {
+            let marks = (record.incoming_mark, record.outgoing_mark);
+            let full = marks == (admitted.counts.b, admitted.counts.o);
+            self.met_if(full, Event::WorstCount);
+            self.met_if(!full, Event::WorstCountShort);
+        }
     }
 
     /// Counts what a step case meets.
@@ -418,6 +476,11 @@ impl Coverage {
         let record = Record::from_numbers(numbers).expect("a status that is not too wide");
         let clause = broken_clause(admitted, &record).expect("a clause that 23 is for");
         self.met(Event::Unfit(clause));
+        match clause {
+            Clause::Marks => self.observe_unfit_marks(admitted, &record),
+            Clause::Note => self.observe_unfit_note(admitted, &record),
+            _ => {}
+        }
     }
 
     fn observe_steps(&mut self, case: &CallCase) {
@@ -456,7 +519,14 @@ impl Coverage {
         let on = !after.ended || code == 0;
         let parity = response.tpe || response.lpe;
         let (mode, q_mode) = (mode(&camac), q_number(&camac));
-        if on && same_word(before, after) {
+        let no_q = camac.is_stop_block() && !response.q;
+        self.met_if(!on && no_q, Event::NotClosed(code));
+        let without_q = Event::EndedWithoutQ(mode, camac.abort_disable);
+        self.met_if(code == 7, without_q);
+        self.observe_lower_marks(admitted, &camac, before, after);
+        if on && no_q {
+            self.observe_short_block(admitted, &camac, before, response);
+        } else if on && same_word(before, after) {
             self.met(Event::Again(mode, q_mode));
         } else if on {
             self.met(Event::Done(mode, q_mode));
@@ -597,7 +667,10 @@ fn of_operations() -> impl Iterator<Item = Event> {
         .flatten()
         .chain(again.into_iter().flatten());
     let events = ends.into_iter().chain(modes).chain(plain);
-    events.chain(of_damaged_commands()).chain(of_stored_words())
+    let events = events.chain(of_damaged_commands()).chain(of_stored_words());
+    let events = events.chain(short::of_blocks());
+    let events = events.chain(short::of_closing_flags());
+    events.chain(short::of_ends_without_q())
 }
 
 /// The events of answers with ERR.
@@ -684,6 +757,10 @@ fn q_number(camac: &Camac) -> u8 {
         QMode::Repeat => 2,
         QMode::Scan => 3,
     }
+}
+
+fn is_wide(camac: &Camac) -> bool {
+    camac.size == WordSize::Bits24
 }
 
 fn reads(camac: &Camac) -> bool {

@@ -10,6 +10,7 @@ pub mod paper;
 pub mod records;
 pub mod rng;
 pub mod rows;
+pub mod short;
 
 use crate::walk::{admission, Admitted};
 use rng::Rng;

@@ -4,6 +4,7 @@
 
 mod damaged;
 mod longwords;
+mod short_blocks;
 
 use super::by_hand::*;
 use crate::camrun::MOST_BYTES;
@@ -37,6 +38,7 @@ pub struct Known {
     stored: Option<Vec<u8>>,
     positions: Vec<(u64, u64)>,
     wanted: Option<[u64; 6]>,
+    record: Option<[u64; 13]>,
 }
 
 /// What the incoming buffer holds before a run.
@@ -55,6 +57,7 @@ impl Known {
             stored: None,
             positions: Vec::new(),
             wanted: None,
+            record: None,
         }
     }
 
@@ -98,13 +101,19 @@ impl Known {
         Known { wanted, ..self }
     }
 
+    /// With the numbers of the record behind the row.
+    fn leaves(self, record: [u64; 13]) -> Known {
+        let record = Some(record);
+        Known { record, ..self }
+    }
+
     /// Holds an engine against the case.
     pub fn check(&self, engine: &Engine) {
         let lengths = (self.incoming_len as u64, self.outgoing.len() as u64);
         let admission = (engine.admit)(&self.list, lengths.0, lengths.1);
         assert_eq!(admission_line(&admission), self.admission, "{}", self.name);
         self.check_run(engine, &admission);
-        if self.wanted.is_some() || self.stored.is_some() {
+        if self.wanted.is_some() || self.stored.is_some() || self.record.is_some() {
             self.check_steps(engine);
         }
     }
@@ -127,6 +136,9 @@ impl Known {
         assert_eq!((number, place), (0, 0), "{}", self.name);
         if let Some(expected) = self.wanted {
             assert_eq!(wanted, expected, "{}", self.name);
+        }
+        if let Some(expected) = self.record {
+            assert_eq!(record, expected, "{}", self.name);
         }
         self.check_stored(&incoming, record[6]);
     }
@@ -155,6 +167,9 @@ impl Known {
         } else if let Some(ending) = &self.ending {
             assert_eq!(&ending_line(&numbers), ending, "{}", self.name);
         }
+        if let Some(record) = &self.record {
+            assert_eq!(numbers[3..], record[..], "{}", self.name);
+        }
         self.check_stored(&incoming, numbers[9]);
         for (taken, position) in self.positions.iter().enumerate() {
             let (numbers, _) = run(&self.row[..8 * taken]);
@@ -172,19 +187,21 @@ pub struct KnownStep {
     outgoing: Vec<u8>,
     before: [u64; 13],
     reply: [u8; 8],
+    /// Number, place and the operation wanted: zeros after the run's end.
+    answer: [u64; 8],
     after: [u64; 13],
     /// Where bytes are stored, and which.
     stored: Option<(usize, Vec<u8>)>,
 }
 
 impl KnownStep {
-    /// Holds an engine against the step, which ends the run; no other byte may change.
+    /// Holds an engine against the step; no other byte may change.
     pub fn check(&self, engine: &Engine) {
         let mut record = self.before;
         let mut incoming = vec![UNTOUCHED; MOST_BYTES];
         let (list, outgoing) = (&self.list, &self.outgoing);
         let answer = (engine.step)(list, &mut record, &mut incoming, outgoing, &self.reply);
-        assert_eq!(answer, [0; 8], "{}", self.name);
+        assert_eq!(answer, self.answer, "{}", self.name);
         assert_eq!(record, self.after, "{}", self.name);
         let mut expected = vec![UNTOUCHED; MOST_BYTES];
         if let Some((at, bytes)) = &self.stored {
@@ -274,13 +291,22 @@ pub fn document_02() -> Vec<Known> {
         longwords::ignored(),
         longwords::words(),
         longwords::unchanged(),
+        short_blocks::reads(),
+        short_blocks::writes(),
+        short_blocks::unclosed(),
     ];
     requests.into_iter().flatten().collect()
 }
 
 /// Single steps of document 02's requests, from a record on.
 pub fn steps() -> Vec<KnownStep> {
-    [damaged::steps(), longwords::steps()].concat()
+    [
+        damaged::steps(),
+        longwords::steps(),
+        short_blocks::steps(),
+        short_blocks::marks(),
+    ]
+    .concat()
 }
 
 /// E1: the list sequencer, R = 1.

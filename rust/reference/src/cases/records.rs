@@ -81,8 +81,8 @@ pub fn fitting(rng: &mut Rng, admitted: &Admitted) -> Option<Record> {
         tries: tries(rng, &camac, admitted.list.try_limit),
         n: position.station,
         a: position.subaddress,
-        incoming_mark: marks.incoming,
-        outgoing_mark: marks.outgoing,
+        incoming_mark: mark(rng, marks.incoming),
+        outgoing_mark: mark(rng, marks.outgoing),
         operations: 0,
         status: rng.number() as u32 & status::FLAGS,
         note: Note::default(),
@@ -98,9 +98,37 @@ pub fn fitting(rng: &mut Rng, admitted: &Admitted) -> Option<Record> {
     Some(record)
 }
 
-/// Every place of a run that a record can fit: instruction, words left, tries, N and A; each
-/// with as many operations as fit, no flags and no note.
+/// A mark that fits where the old one is `old`: that one, or any even one below it.
+fn mark(rng: &mut Rng, old: u64) -> u64 {
+    if rng.coin() {
+        old
+    } else {
+        2 * rng.within(0..=old / 2)
+    }
+}
+
+/// Every place of a run that a record can fit, with each two marks that fit there; each with as
+/// many operations as fit, no flags and no note.
 pub fn all_fitting(admitted: &Admitted) -> Vec<Record> {
+    let places = all_places(admitted);
+    places.iter().flat_map(with_lower_marks).collect()
+}
+
+/// A record with each two even marks up to its own.
+fn with_lower_marks(record: &Record) -> Vec<Record> {
+    let even = |mark: u64| (0..=mark).step_by(2);
+    let with = |incoming_mark, outgoing_mark| Record {
+        incoming_mark,
+        outgoing_mark,
+        ..*record
+    };
+    let outgoing = |incoming| even(record.outgoing_mark).map(move |mark| with(incoming, mark));
+    even(record.incoming_mark).flat_map(outgoing).collect()
+}
+
+/// Every place of a run that a record can fit: instruction, words left, tries, N and A; each
+/// with the marks of the walk, as many operations as fit, no flags and no note.
+pub fn all_places(admitted: &Admitted) -> Vec<Record> {
     let mut records = Vec::new();
     for (visit, &number) in admitted.walk.iter().enumerate() {
         let Some(camac) = camac_at(admitted, visit) else {

@@ -25,18 +25,21 @@ pub enum Manner {
     Risky,
     /// As slow, with ERR or a parity error where another cause or the last word can meet it.
     Marked,
+    /// As slow, with stop blocks closed at any word.
+    Short,
     /// Replies of any kind.
     Wild,
-    /// Q = 0 wherever it is met.
+    /// Q = 0 wherever it is not the end at once.
     NeverReady,
 }
 
-pub const MANNERS: [Manner; 7] = [
+pub const MANNERS: [Manner; 8] = [
     Manner::Good,
     Manner::Slow,
     Manner::Slowest,
     Manner::Risky,
     Manner::Marked,
+    Manner::Short,
     Manner::Wild,
     Manner::NeverReady,
 ];
@@ -78,10 +81,11 @@ pub fn next_reply(rng: &mut Rng, admitted: &Admitted, record: &Record, manner: M
         Manner::Risky if rng.once_in(12) => return any_reply(rng),
         Manner::Risky => slow(rng, &camac, record, try_limit),
         Manner::Marked => marked(rng, &camac, record, try_limit),
+        Manner::Short => short(rng, &camac, record, try_limit),
         Manner::Wild => return any_reply(rng),
         Manner::NeverReady => match camac.q_mode {
-            QMode::Stop => Q | X,
-            QMode::Ignore | QMode::Repeat | QMode::Scan => X,
+            QMode::Stop if !camac.is_stop_block() => Q | X,
+            _ => X,
         },
     };
     answer(flags, rng.number() as u32)
@@ -111,7 +115,7 @@ fn marked(rng: &mut Rng, camac: &Camac, record: &Record, try_limit: u64) -> u8 {
     let last_place = (record.n, record.a) == (23, 15);
     let last_try = record.tries + 1 == try_limit;
     let here = match camac.q_mode {
-        QMode::Stop => rng.once_in(12),
+        QMode::Stop => rng.once_in(6),
         QMode::Ignore => false,
         QMode::Repeat => last_try && rng.coin(),
         QMode::Scan => last_place || (record.n == 23 && rng.once_in(12)),
@@ -121,6 +125,16 @@ fn marked(rng: &mut Rng, camac: &Camac, record: &Record, try_limit: u64) -> u8 {
     }
     let q = if last_place || rng.coin() { Q } else { 0 };
     q | X | rng.pick(&MARKS)
+}
+
+/// Half of the answers in a stop block with Q = 0, so that it is closed; else as slow.
+fn short(rng: &mut Rng, camac: &Camac, record: &Record, try_limit: u64) -> u8 {
+    let flags = slow(rng, camac, record, try_limit);
+    if camac.is_stop_block() && rng.coin() {
+        flags & !Q
+    } else {
+        flags
+    }
 }
 
 /// Flags that end nothing: Q = 0 where the mode bears it, X = 0 and parity errors where

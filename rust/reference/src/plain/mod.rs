@@ -4,7 +4,7 @@
 //! They yield what `walk::admit` and `run::run_row` yield. One pass checks the row. Then
 //! each visit of the walk looks at its instruction once and takes the answers that are no
 //! cause in a loop of its own, eight at a time where it can; the reply that stops that loop
-//! short of the last word ends the run.
+//! short of the last word closes a stop block or ends the run.
 
 mod plan;
 
@@ -118,7 +118,8 @@ fn flags(seen: u64) -> u32 {
 }
 
 /// The bits of an answer, less `CLEAN`, that end the run, by the low five bits of an
-/// instruction's first longword; of ERR `causes_in` says more.
+/// instruction's first longword; of ERR `causes_in` says more, of Q = 0 in a block
+/// `Visit::closes`.
 const CAUSES: [u64; 32] = causes_table();
 
 const fn causes_table() -> [u64; 32] {
@@ -178,6 +179,11 @@ impl Visit {
             done: 0,
             seen: 0,
         }
+    }
+
+    /// Whether an answer closes the block: Q = 0 in stop and no other cause.
+    fn closes(&self, answer: u64) -> bool {
+        self.command.is_block() && causes_in(answer, self.causes) == NO_Q
     }
 
     /// Takes answers that are no cause until each place has its word or replies run out.
@@ -465,7 +471,8 @@ impl Run<'_> {
         };
     }
 
-    /// A visit that has words left waits, or ends the run by its next reply.
+    /// A visit that has words left waits, or its next reply ends the run or closes the block;
+    /// true if the block is closed.
     #[cold]
     fn stopped(&mut self, visit: &Visit) -> bool {
         let Some((reply, rest)) = self.replies.split_first() else {
@@ -476,6 +483,11 @@ impl Run<'_> {
             return false;
         };
         self.replies = rest;
+        let answer = number(reply) ^ CLEAN;
+        if visit.closes(answer) {
+            self.seen |= answer;
+            return true;
+        }
         let (flag, code) = match reply[0] {
             0 => self.cause(visit, reply),
             1 => (status::TIMEOUT, 0xB),
@@ -506,7 +518,7 @@ impl Run<'_> {
             _ if causes & (TPE | LPE) != 0 => 0xA,
             _ if left => 9,
             _ if causes & NO_X != 0 => 8,
-            _ if causes & NO_Q != 0 => 7,
+            _ if causes & NO_Q != 0 && !visit.command.is_block() => 7,
             _ => 4,
         };
         (if left { status::SCAN_LEFT } else { 0 }, code)

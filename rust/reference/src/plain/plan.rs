@@ -55,6 +55,11 @@ impl Command {
         self.first >> 3 & 3
     }
 
+    /// Whether it is a block, enhanced or standard.
+    pub fn is_block(self) -> bool {
+        matches!(mode(self.first), BLOCK | ENHANCED)
+    }
+
     /// The bytes that a word takes.
     pub fn length(self) -> u64 {
         if self.first & 2 == 0 {

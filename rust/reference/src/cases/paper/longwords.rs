@@ -167,6 +167,7 @@ pub fn steps() -> Vec<KnownStep> {
         outgoing: Vec::new(),
         before: [0, 1, 17, 0, 23, 15, 2, 0, 17, 0, 0, 0, 2],
         reply: answer(Q | X, DATA),
+        answer: [0; 8],
         after: [1, 1, 0, 0, 0, 0, 8, 0, 18, 0x9040_0080, 0, 4, 4],
         stored: Some((2, hex(&format!("00 00 {STORED}")))),
     }]
