@@ -49,7 +49,8 @@ fn mark_fits(mark: usize, old: usize) -> bool
     (mark % 2 == 0) & (mark <= old)
 }
 
-// Whether a record's marks are even and at most the walk's with the moved words. Words and marks are an admitted list's.
+// Whether a record's marks are even and at most the walk's with the moved words. Words and marks are an admitted list's; no more words are left than
+// the instruction has.
 fn marks_fit(c: Command, m: Marks, r: Record) -> bool
     requires { ⌜ (wordsOf (c .transfer) ≤ 2 ^ 16) × (MarksTo (2 ^ 60) m × (r .left ≤ wordsOf (c .transfer))) ⌝ }
     ensures { λ x. ⌜ x ≡ marksFit c m r ⌝ }

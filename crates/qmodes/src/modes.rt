@@ -79,7 +79,7 @@ pub fn scan_leaves(q: QMode, a: Answer, p: ScanPosition, left: usize) -> bool
     }
 }
 
-// Whether this was the last try of a word in repeat. That a repeat ends: specs/Ends.
+// Whether this was the last try of a word in repeat. That a repeat ends: specs/Ends. Tries stay below R, and R below 2^16.
 pub fn is_spent(limit: usize, q: QMode, a: Answer, tries: usize) -> bool
     requires { ⌜ tries < 2 ^ 16 ⌝ }
     ensures { λ r. ⌜ r ≡ spent limit q a tries ⌝ }
