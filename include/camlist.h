@@ -1,26 +1,29 @@
 /*
  * The crate list engine for hosts in C and C++. Lists, replies, packing, status and refusals are those of document 01, "The crate list engine",
  * with enhanced blocks and the list sequencer (document 02, E1), with runs that a damaged command ends (E4), with stop blocks that Q = 0 closes
- * (E8), and with Q and X in the longwords of 24-bit words (E9).
+ * (E8), with Q and X in the longwords of 24-bit words (E9), and with decimal scalers converted to binary and back (E10).
  * Link libhost.a, which `rt staticlib host` makes for x86-64 Linux; every function that is declared and not defined here is proved.
  *
  * Which call. camlist_admit says whether a list is well formed and what it can need. A host that drives a crate calls camlist_start, makes the
  * operation that its answer wants, gives the reply to camlist_step, and so on until the record has ended. A host whose replies come many at a
  * time (an adapter's FIFO) gives them to camlist_steps, which goes on from a record as camlist_step does. camlist_run is start and all replies in
- * one call: it begins at the list's start each time, and camlist_step goes on from the record in its answer.
+ * one call: it begins at the list's start each time, and camlist_step goes on from the record in its answer. camlist_to_binary and
+ * camlist_to_decimal convert words that were stored, and take no list.
  *
- * Cost. Every call reads the whole list and follows its walk anew: a step takes some 10,000 instructions for a short list and 0.6 million for one
- * of 4,000 fields. For many replies prefer camlist_steps or camlist_run, which read it once and take some 10 to 700 instructions a reply.
+ * Cost. Every call on a list reads the whole of it and follows its walk anew: a step takes some 10,000 instructions for a short list and 0.6 million
+ * for one of 4,000 fields. For many replies prefer camlist_steps or camlist_run, which read it once and take some 10 to 700 instructions a reply. A
+ * row of scalers is gone over twice, once to judge it and once to convert it: some 10 to 16 instructions a longword of a long row.
  *
  * Arguments. A slice is a pointer and its length in bytes; NULL is fine where the length is 0. Byte slices need no alignment, arrays of uint64_t
- * that of uint64_t; arrays may not be NULL. What a call writes (`incoming`, `record`, `answer`, `name`) overlaps no other argument; slices that
- * are only read may overlap each other. Nothing is kept between calls, so that threads may call at once. A call takes up to 10 KiB of stack, never
- * allocates, never blocks and always returns: no list, record or reply, however wrong, makes it do anything but refuse.
+ * that of uint64_t; arrays may not be NULL. What a call writes (`incoming`, `record`, `answer`, `name`, a row of scalers) overlaps no other
+ * argument; slices that are only read may overlap each other. Nothing is kept between calls, so that threads may call at once. A call takes up to
+ * 10 KiB of stack, never allocates, never blocks and always returns: no list, record, reply or row, however wrong, makes it do anything but refuse.
  *
  * Versions. The names below stand for symbols with the version in them: an object that was compiled with the header of another version does
  * not link. Name the sizes of arrays by their constants. Version 2: the operation wanted has a sixth number, "enhanced", so that the answers of
  * camlist_start, camlist_step and camlist_steps are one number longer. E9 came within version 2: a stored 24-bit word's top byte was zero before it.
- * So did E8: before it Q = 0 ended the run with code 7 in a stop block too. A record that was kept before E8 goes on by its rule.
+ * So did E8: before it Q = 0 ended the run with code 7 in a stop block too. A record that was kept before E8 goes on by its rule. So did E10, which
+ * adds two calls and changes none.
  */
 #ifndef CAMLIST_H
 #define CAMLIST_H
@@ -41,10 +44,12 @@ extern "C" {
 #define camlist_steps camlist_steps_v2
 #define camlist_run camlist_run_v2
 #define camlist_code_name camlist_code_name_v2
+#define camlist_to_binary camlist_to_binary_v2
+#define camlist_to_decimal camlist_to_decimal_v2
 
 /* Every answer begins with these two. After a refusal the numbers behind them are 0, but for a refused run's record, which has ended. */
 #define CAMLIST_NUMBER 0 /* 0 not refused, else the refusal */
-#define CAMLIST_PLACE 1  /* offset of the refused field's first byte, or 0 */
+#define CAMLIST_PLACE 1  /* offset in the list of the refused field's first byte; of refusal 32 that of the longword in its row; else 0 */
 
 /* The numbers of camlist_admit's answer. */
 #define CAMLIST_ADMIT_WORST 2    /* W, the most operations that a run can make */
@@ -78,6 +83,9 @@ extern "C" {
 #define CAMLIST_RUN_RECORD 3 /* from here on the record, which camlist_step takes: answer + CAMLIST_RUN_RECORD */
 #define CAMLIST_RUN_NUMBERS 16
 
+/* The answers of camlist_to_binary and camlist_to_decimal have number and place alone. */
+#define CAMLIST_SCALERS_NUMBERS 2
+
 /* The numbers of a record: the state of a run. A host keeps them between calls, and need not look at them. */
 #define CAMLIST_RECORD_ENDED 0         /* 1 ended, 0 waiting for a reply */
 #define CAMLIST_RECORD_INSTRUCTION 1   /* the instruction that waits, or that ended the run */
@@ -94,7 +102,8 @@ extern "C" {
 #define CAMLIST_RECORD_NOTE_LENGTH 12  /* and its length; 0 while none was moved */
 #define CAMLIST_RECORD_NUMBERS 13
 
-/* Refusals, in the order in which they are judged: fields front to back, each by 1 to 9, then the others. 1 to 10 have the place of their field. */
+/* Refusals, in the order in which they are judged: fields front to back, each by 1 to 9, then the others. 1 to 10 have the place of their field.
+   31 and 32 are those of a row of scalers, longwords front to back; 32 has the place of its longword. */
 #define CAMLIST_NOT_REFUSED 0
 #define CAMLIST_REFUSED_CUT 1           /* a field's head or body runs past the end of the list */
 #define CAMLIST_REFUSED_FIRST 2         /* no field, or a first field that is not format 1 with a try limit */
@@ -114,6 +123,8 @@ extern "C" {
 #define CAMLIST_REFUSED_RECORD 23       /* the record does not fit the list, or one of its numbers is too wide for its part; its marks
                                            fit if even and not above those of a run in which no block is short */
 #define CAMLIST_REFUSED_REPLY 22        /* a reply, or one anywhere in a row, is not well formed; or the row is no multiple of 8 bytes */
+#define CAMLIST_REFUSED_ROW_LENGTH 31   /* a row of scalers is no multiple of 4 bytes */
+#define CAMLIST_REFUSED_SCALER 32       /* a longword has a bit of 29 to 24 set; or, to binary, a digit above 9, to decimal a value above 999,999 */
 
 /* Codes of the status: why a run ended. */
 #define CAMLIST_CODE_NO_ERROR 0x0        /* halt, whether or not blocks were short */
@@ -165,6 +176,15 @@ void camlist_steps(const uint8_t *list, size_t list_len, uint64_t record[CAMLIST
 void camlist_run(const uint8_t *list, size_t list_len, uint8_t *incoming, size_t incoming_len, const uint8_t *outgoing, size_t outgoing_len,
                  const uint8_t *replies, size_t replies_len, uint64_t answer[CAMLIST_RUN_NUMBERS]);
 
+/* Many scalers give six decimal digits in a 24-bit word, the highest in bits 23 to 20. `row` is a part of a buffer that holds such words' longwords
+   and nothing else; what lies around it stays. camlist_to_binary puts into bits 23 to 0 of each, camlist_word_data, the number that its digits stand
+   for, 0 to 999,999. Bits 31 and 30, Q and X, stay. Refused, 31 or 32, it leaves the whole row as it is, longwords before the one refused too. A row
+   of none passes. */
+void camlist_to_binary(uint8_t *row, size_t row_len, uint64_t answer[CAMLIST_SCALERS_NUMBERS]);
+
+/* The same from numbers to digits. What either of the two converts, the other converts back. */
+void camlist_to_decimal(uint8_t *row, size_t row_len, uint64_t answer[CAMLIST_SCALERS_NUMBERS]);
+
 /* The name of a code as the driver manual has it, filled with blanks; all blanks for a number above 15. */
 #define CAMLIST_NAME_BYTES 16
 void camlist_code_name(uint64_t code, uint8_t name[CAMLIST_NAME_BYTES]);
@@ -213,6 +233,8 @@ static inline const char *camlist_refusal_text(uint64_t number)
     case CAMLIST_REFUSED_REPLY: return "a reply is not well formed";
     case CAMLIST_REFUSED_RECORD: return "the record does not fit the list";
     case CAMLIST_REFUSED_ENDED: return "the run has ended";
+    case CAMLIST_REFUSED_ROW_LENGTH: return "the row is not whole longwords";
+    case CAMLIST_REFUSED_SCALER: return "a longword has a bit of 29 to 24, a digit above 9 or a value above 999,999";
     default: return "unknown refusal";
     }
 }

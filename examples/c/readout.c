@@ -1,7 +1,7 @@
 /*
  * Admits lists, runs them over replies that stand for a crate's, and prints the samples and how each run ended: document 01's worked
- * case, a digitizer read in one block, one with fewer samples than asked, a crate that falls silent, a list that is refused, and 24-bit scalers
- * of which one does not answer.
+ * case, a digitizer read in one block, one with fewer samples than asked, a crate that falls silent, a list that is refused, 24-bit scalers
+ * of which one does not answer, and scalers that count in decimal digits.
  *
  * `rt staticlib host` in the repository's root, then `make run` here.
  */
@@ -20,7 +20,7 @@ static void print_refusal(const uint64_t *answer)
            camlist_refusal_text(answer[CAMLIST_NUMBER]));
 }
 
-static void print_samples(const uint8_t *incoming, uint64_t mark)
+static void print_samples(uint8_t *incoming, uint64_t mark)
 {
     for (uint64_t at = 0; at + 2 <= mark; at += 2) {
         unsigned sample = incoming[at] | (unsigned)incoming[at + 1] << 8;
@@ -29,13 +29,25 @@ static void print_samples(const uint8_t *incoming, uint64_t mark)
 }
 
 /* 24-bit words: which came with X = 0, from a station that did not answer, and which with Q = 0. */
-static void print_wide(const uint8_t *incoming, uint64_t mark)
+static void print_wide(uint8_t *incoming, uint64_t mark)
 {
     for (uint64_t at = 0; at + 4 <= mark; at += 4) {
         uint32_t longword = camlist_longword(incoming + at);
         printf("  %08" PRIX32 ": %8" PRIu32 "%s%s\n", longword, camlist_word_data(longword), camlist_word_q(longword) ? "" : ", Q = 0",
                camlist_word_x(longword) ? "" : ", X = 0");
     }
+}
+
+/* The same of words that are six decimal digits, converted first. */
+static void print_decimal(uint8_t *incoming, uint64_t mark)
+{
+    uint64_t answer[CAMLIST_SCALERS_NUMBERS];
+
+    camlist_to_binary(incoming, mark, answer);
+    if (answer[CAMLIST_NUMBER] != CAMLIST_NOT_REFUSED) {
+        print_refusal(answer);
+    }
+    print_wide(incoming, mark);
 }
 
 static void print_ending(const uint64_t record[CAMLIST_RECORD_NUMBERS])
@@ -57,7 +69,7 @@ static void print_ending(const uint64_t record[CAMLIST_RECORD_NUMBERS])
 
 /* Admits and runs a list of reads, all of one word size. */
 static void read_out(const char *title, const camlist_bytes *list, const uint8_t *replies, size_t replies_len,
-                     void (*print)(const uint8_t *incoming, uint64_t mark))
+                     void (*print)(uint8_t *incoming, uint64_t mark))
 {
     uint8_t incoming[2 * SAMPLES] = {0};
     uint64_t admission[CAMLIST_ADMIT_NUMBERS];
@@ -79,6 +91,18 @@ static void read_out(const char *title, const camlist_bytes *list, const uint8_t
     }
     print(incoming, record[CAMLIST_RECORD_INCOMING_MARK]);
     print_ending(record);
+}
+
+/* Reads scalers that give 123456, X = 0, and this word. */
+static void read_decimal(const char *title, const camlist_bytes *list, uint32_t last)
+{
+    uint8_t room[3 * CAMLIST_REPLY_BYTES];
+    camlist_bytes counts = {room, sizeof room, 0, 0};
+
+    camlist_put_answer(&counts, CAMLIST_Q | CAMLIST_X, 0x123456);
+    camlist_put_answer(&counts, 0, 0);
+    camlist_put_answer(&counts, CAMLIST_X, last);
+    read_out(title, list, counts.bytes, counts.length, print_decimal);
 }
 
 int main(void)
@@ -148,5 +172,7 @@ int main(void)
     read_out("Station 24", &nowhere, pulse.bytes, pulse.length, print_samples);
     read_out("Half a reply", &digitizer, pulse.bytes, CAMLIST_REPLY_BYTES / 2, print_samples);
     read_out("Scalers", &scalers, counts.bytes, counts.length, print_wide);
+    read_decimal("Decimal scalers", &scalers, 0x000890);
+    read_decimal("Decimal scalers, a binary one behind them", &scalers, 0x00089A);
     return 0;
 }

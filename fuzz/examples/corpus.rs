@@ -1,11 +1,14 @@
 //! Writes libFuzzer's first inputs to the folder that it is given.
 
 use fuzz::{seed, short_seed};
+use reference::cases::rng::Rng;
+use reference::cases::scalers::{row, Way};
 use reference::cases::{case, paper};
 use std::path::PathBuf;
 use std::{env, fs};
 
 const RANDOM_CASES: u64 = 2_000;
+const RANDOM_ROWS: u64 = 200;
 /// Longer inputs are left to the tests.
 const MOST_BYTES: usize = 4_096;
 
@@ -28,4 +31,18 @@ fn main() {
             }
         }
     }
+    for (number, row) in scalers().enumerate() {
+        let input = seed(&[], &row);
+        fs::write(folder.join(format!("{number}-scalers")), input).expect("a file");
+    }
+}
+
+/// Rows of scalers.
+fn scalers() -> impl Iterator<Item = Vec<u8>> {
+    let known = paper::rows().into_iter().map(|known| known.row);
+    let random = (0..RANDOM_ROWS).map(|number| {
+        let way = Way::BOTH[number as usize % 2];
+        row(&mut Rng::of_case(1, number), way)
+    });
+    known.chain(random)
 }

@@ -4,15 +4,16 @@
 //! bytes, little-endian); how long the buffers are, and whether the row stands as it is or
 //! has one byte for each reply, which keeps most rows well formed; how many replies bring a
 //! run to the record that step and steps are given; which of the record's numbers is changed
-//! and how.
+//! and how. The row as it stands is also taken for a row of scalers, either way.
 
 #[path = "../../rust/camlist/tests/common/mod.rs"]
 mod common;
 
 use camlist::ffi;
-use common::{compare_admission, compare_run, compare_start, compare_step, compare_steps};
-use common::{Given, Record};
+use common::{compare_admission, compare_run, compare_scalers, compare_start, compare_step};
+use common::{compare_steps, Given, Record};
 use reference::cases::by_hand::{answer, kind, ok};
+use reference::cases::scalers::Way;
 use std::slice;
 
 /// The bytes before the list.
@@ -40,6 +41,7 @@ pub unsafe extern "C" fn LLVMFuzzerTestOneInput(data: *const u8, size: usize) ->
         let [low, high, manner, taken, at, change] = *head;
         let length = usize::from(u16::from_le_bytes([low, high]));
         let (list, row) = rest.split_at(length.min(rest.len()));
+        compare_conversions(row, usize::from(taken));
         let row = if manner & RAW_ROW == 0 {
             let replies = row.iter().enumerate();
             replies.flat_map(|(at, &byte)| reply(byte, at)).collect()
@@ -49,6 +51,17 @@ pub unsafe extern "C" fn LLVMFuzzerTestOneInput(data: *const u8, size: usize) ->
         compare(list, manner, &row, usize::from(taken), (at, change));
     }
     0
+}
+
+fn compare_conversions(row: &[u8], shift: usize) {
+    for way in Way::BOTH {
+        let what = format_args!("{way:?} {row:02X?}");
+        let (answer, after) = compare_scalers(way, row, shift, what);
+        if answer[0] == 0 {
+            let (_, again) = compare_scalers(way.back(), &after, shift, what);
+            assert!(again == row, "not converted back: {what}");
+        }
+    }
 }
 
 fn compare(list: &[u8], manner: u8, row: &[u8], taken: usize, change: (u8, u8)) {

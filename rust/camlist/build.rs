@@ -3,8 +3,8 @@
 use std::path::{Path, PathBuf};
 use std::{env, fs};
 
-/// A symbol of the version that this crate is written for.
-const SYMBOL: &[u8] = b"camlist_steps_v2";
+/// The newest of the symbols that this crate calls.
+const SYMBOL: &[u8] = b"camlist_to_decimal_v2";
 
 fn main() {
     let manifest = env::var_os("CARGO_MANIFEST_DIR").expect("cargo says where the crate is");
@@ -26,5 +26,5 @@ fn fault(library: &Path) -> Option<&'static str> {
         return Some("is missing");
     };
     let has_symbol = bytes.windows(SYMBOL.len()).any(|some| some == SYMBOL);
-    (!has_symbol).then_some("is of another version")
+    (!has_symbol).then_some("lacks a call, or is of another version")
 }

@@ -17,6 +17,10 @@ use Rattle.calls.specs.declared.Ran.{Ran}
 
 -- Answers ------------------------------------------------------------------------------------------------------------------
 
+-- decimal scalers: number, place
+abbrev pub refusalNumbers : Refusal → List ℕ
+refusalNumbers r = r .number ∷ r .place ∷ []
+
 -- the whole run: number, place, the replies taken, then the record
 abbrev pub runNumbers : Ran → List ℕ
 runNumbers r = r .refusal .number ∷ r .refusal .place ∷ r .taken ∷ recordNumbers (r .run)

@@ -11,8 +11,14 @@ use walk::Spot;
 ghost use mathlib.Core.Path.{_≡_};
 ghost use Rattle.calls.specs.Calls.{numberOf, recordNumbers};
 ghost use Rattle.walk.specs.Admission.{numbersOf};
-ghost use Rattle.host.specs.Numbers.{runNumbers, callNumbers, stepsNumbers, isNarrow};
+ghost use Rattle.host.specs.Numbers.{refusalNumbers, runNumbers, callNumbers, stepsNumbers, isNarrow};
 ghost use Rattle.host.specs.model.Given.{recordOr, numbersAfter};
+
+pub fn refusal_numbers(r: Refusal) -> [u64; 2]
+    ensures { λ n. ⌜ n ≡ refusalNumbers r ⌝ }
+{
+    [r.number as u64, r.place as u64]
+}
 
 pub fn admission_numbers(a: Admission) -> [u64; 5]
     ensures { λ r. ⌜ r ≡ numbersOf a ⌝ }

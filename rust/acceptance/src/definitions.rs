@@ -1,6 +1,6 @@
 //! Edits of the definitions that the theorems are about, tried where there is no code.
 //!
-//! The definitions-only repository has of each crate that the theorems' crate reaches the
+//! The definitions-only repository has of each crate that the theorems' crates reach the
 //! definitions, the types and the law files that the theorems cite. No function is in it,
 //! so that a wrong definition is refused by a theorem or by a law that it cites.
 
@@ -13,10 +13,34 @@ use crate::repository::{self, Listed};
 use crate::types;
 use crate::verdict::{self, Report, Verdict};
 
-/// The crate of the theorems: the worst count, and where the words behind a short block
-/// lie. For each the file of its proofs that has it, and its name.
-pub const CRATE: &str = "worst_count";
-pub const THEOREMS: [(&str, &str); 2] = [("Bound", "worst-count"), ("ShortBlocks", "short-blocks")];
+/// A theorem: its crate, the file of the crate's proofs that has it, and its name.
+pub struct Theorem {
+    owner: &'static str,
+    module: &'static str,
+    name: &'static str,
+}
+
+const fn theorem(owner: &'static str, module: &'static str, name: &'static str) -> Theorem {
+    Theorem {
+        owner,
+        module,
+        name,
+    }
+}
+
+/// The worst count; where the words behind a short block lie; both routes of decimal
+/// scalers return the row; their worked examples.
+pub const THEOREMS: [Theorem; 4] = [
+    theorem("worst_count", "Bound", "worst-count"),
+    theorem("worst_count", "ShortBlocks", "short-blocks"),
+    theorem("scalers", "BothRoutes", "both-routes"),
+    theorem("scalers", "Examples", "examples"),
+];
+
+/// The crates of the theorems.
+fn owners() -> BTreeSet<&'static str> {
+    THEOREMS.iter().map(|theorem| theorem.owner).collect()
+}
 
 /// A law file: `crates/CRATE/proofs/MODULE.antt`.
 type Law = (String, String);
@@ -39,7 +63,7 @@ fn cited(line: &str) -> Option<Law> {
 /// The law files that the theorems' files cite, whatever lies between, and themselves.
 fn laws(root: &Path) -> Result<BTreeSet<Law>, String> {
     let mut found = BTreeSet::new();
-    let own = |theorem: &(&str, &str)| (CRATE.to_string(), theorem.0.to_string());
+    let own = |theorem: &Theorem| (theorem.owner.to_string(), theorem.module.to_string());
     let mut open: Vec<Law> = THEOREMS.iter().map(own).collect();
     while let Some(law) = open.pop() {
         if found.contains(&law) {
@@ -97,7 +121,8 @@ fn line_of(c: &Listed) -> String {
 
 /// Writes the definitions-only repository of the one at `root` to a folder.
 pub fn build(root: &Path, to: &Path) -> Result<(), String> {
-    let crates = repository::reached(&repository::listed(root)?, CRATE);
+    let tops: Vec<&str> = owners().into_iter().collect();
+    let crates = repository::reached(&repository::listed(root)?, &tops);
     let laws = laws(root)?;
     for c in &crates {
         build_crate(root, to, &c.name, &laws)?;
@@ -113,7 +138,8 @@ pub struct Base {
 
 /// Whether the theorems are proved in a folder, and the log.
 fn check(folder: &Path) -> Result<(bool, String), String> {
-    let output = repository::rt(folder, &["check", CRATE])?;
+    let words: Vec<&str> = ["check"].into_iter().chain(owners()).collect();
+    let output = repository::rt(folder, &words)?;
     let log = String::from_utf8_lossy(&output.stdout).into_owned();
     match output.status.code() {
         Some(0) => Ok((true, log)),
@@ -149,18 +175,31 @@ impl Base {
     }
 }
 
-/// Whether a theorem falls with what was refused: itself, or in a crate below its own,
+/// Whether a theorem falls with what was refused: itself, or in a crate below theirs,
 /// whose law files are those that the theorems cite.
 fn falls(reports: &[Report]) -> bool {
-    let own = format!("crates/{CRATE}/");
-    let is_lower = |r: &Report| !r.file.starts_with(&own);
-    let is_theorem = |r: &Report| THEOREMS.iter().any(|theorem| r.law == theorem.1);
+    let is_lower = |r: &Report| !owners().iter().any(|owner| is_in(r, owner));
     reports.iter().any(|r| is_lower(r) || is_theorem(r))
 }
 
-/// The first error must be a fact, and a theorem must fall with it.
+fn is_in(report: &Report, owner: &str) -> bool {
+    report.file.starts_with(&format!("crates/{owner}/"))
+}
+
+fn is_theorem(report: &Report) -> bool {
+    let is = |theorem: &Theorem| is_in(report, theorem.owner) && report.law == theorem.name;
+    THEOREMS.iter().any(is)
+}
+
+/// A theorem is refused by itself, as examples are by what they compute to; or else the
+/// first error must be a fact, and a theorem must fall with it.
 fn judge(reports: &[Report]) -> Verdict {
-    match (verdict::judge(reports), verdict::causes(reports).first()) {
+    let causes = verdict::causes(reports);
+    let itself = causes.iter().find(|r| is_theorem(r));
+    if let Some(&theorem) = itself {
+        return verdict::judge(std::slice::from_ref(theorem));
+    }
+    match (verdict::judge(reports), causes.first()) {
         (Verdict::Fact(fact), Some(&first)) if *first != fact => Verdict::Misfit(first.clone()),
         (Verdict::Fact(fact), _) if !falls(reports) => {
             Verdict::NotRefused(format!("no theorem rests on {}", fact.law))
@@ -235,12 +274,32 @@ mod tests {
         let own = report("crates/worst_count/proofs/A.antt", "a", "`omega`: no");
         let theorem = report(
             "crates/worst_count/proofs/Bound.antt",
-            THEOREMS[0].1,
+            THEOREMS[0].name,
             "`a` was not admitted",
         );
         let lower = report("crates/walk/proofs/B.antt", "b", "`omega`: no");
         assert!(!judge(std::slice::from_ref(&own)).is_fact());
         assert!(judge(&[own, theorem]).is_fact());
         assert!(judge(&[lower]).is_fact());
+    }
+
+    #[test]
+    fn a_theorem_refused_by_itself() {
+        let report = |module: &str, law: &str, message: &str| Report {
+            file: format!("crates/scalers/proofs/{module}.antt"),
+            line: 1,
+            law: law.to_string(),
+            message: message.to_string(),
+            detail: String::new(),
+            automatic: false,
+        };
+        let lost = report("Laws", "a", "`x` is not in scope");
+        let follows = report("BothRoutes", "both-routes", "`a` was not admitted");
+        let example = report("Examples", "examples", "expected type `1 ≡ 2`");
+        assert!(!judge(&[lost.clone(), follows.clone()]).is_fact());
+        assert_eq!(
+            judge(&[lost, follows, example.clone()]),
+            Verdict::Fact(example)
+        );
     }
 }

@@ -32,9 +32,9 @@ pub fn listed(root: &Path) -> Result<Vec<Listed>, String> {
     Ok(text.lines().filter_map(listed_in).collect())
 }
 
-/// A crate with those that it reaches, in the order of crates.txt.
-pub fn reached(listed: &[Listed], top: &str) -> Vec<Listed> {
-    let mut names = vec![top.to_string()];
+/// Crates with those that they reach, in the order of crates.txt.
+pub fn reached(listed: &[Listed], tops: &[&str]) -> Vec<Listed> {
+    let mut names: Vec<String> = tops.iter().map(|top| top.to_string()).collect();
     let mut at = 0;
     while at < names.len() {
         let found = listed.iter().find(|c| c.name == names[at]);
@@ -63,11 +63,15 @@ mod tests {
     use super::*;
 
     #[test]
-    fn the_crates_that_one_reaches() {
+    fn the_crates_that_some_reach() {
         let text = "a:\nb: a # first\n\nc: a io\nd: b\n";
         let all: Vec<Listed> = text.lines().filter_map(listed_in).collect();
-        let names: Vec<String> = reached(&all, "d").into_iter().map(|c| c.name).collect();
-        assert_eq!(names, ["a", "b", "d"]);
+        let names = |tops| -> Vec<String> {
+            let found = reached(&all, tops);
+            found.into_iter().map(|c| c.name).collect()
+        };
+        assert_eq!(names(&["d"]), ["a", "b", "d"]);
+        assert_eq!(names(&["b", "c"]), ["a", "b", "c"]);
         assert_eq!(all[2].deps, ["a", "io"]);
     }
 }

@@ -1,9 +1,11 @@
-//! What the benchmark runs: lists of every kind, with rows of answers that are taken whole.
+//! What the benchmark runs: lists of every kind, with rows of answers that are taken whole;
+//! rows of scalers.
 
 use camlist::ffi;
 use reference::cases::lists::{Draft, DraftField, BITS_16, BLOCK, ENHANCED, INLINE};
 use reference::cases::rng::Rng;
 use reference::cases::rows::{self, Manner};
+use reference::cases::scalers::{self, Way, TOPS, VALUES};
 use reference::walk::admission;
 
 /// Crate 3, N 6, A 0, AD = 1, so that few answers end a run.
@@ -280,6 +282,20 @@ fn shuffled_jumps() -> Vec<DraftField> {
         fields[pair[0]] = DraftField::jump(pair[1]);
     }
     fields
+}
+
+/// The longwords of a row of scalers.
+pub const SCALERS: usize = 65_536;
+
+/// A row of scalers that passes this way: any values, any of bits 31 and 30.
+pub fn scalers(way: Way) -> Vec<u8> {
+    let mut rng = Rng::new(6);
+    let scaler = |_| {
+        let value = rng.below(u64::from(VALUES)) as u32;
+        rng.pick(&TOPS) | way.with_value(value)
+    };
+    let longwords: Vec<u32> = (0..SCALERS).map(scaler).collect();
+    scalers::bytes(&longwords)
 }
 
 /// The numbers of instructions of the lists that steps are measured on.

@@ -1,7 +1,10 @@
 //! Times the proved engine beside the separate build's plain loop: same process, same
 //! inputs, in turns. `cargo run --release -p bench`.
 
-use bench::{admissions, workloads, Workload};
+use bench::{admissions, scalers, workloads, Workload, SCALERS};
+use camlist::ffi;
+use reference::cases::scalers::Way;
+use reference::plain;
 use std::hint::black_box;
 use std::time::Instant;
 
@@ -41,14 +44,35 @@ fn compare_runs(workload: &Workload, row: &[u8]) -> Times {
     let mut proved_incoming = vec![1; workload.incoming_len];
     let mut plain_incoming = vec![1; workload.incoming_len];
     let times = compare(
-        || camlist::ffi::run(list, &mut proved_incoming, outgoing, row),
-        || reference::plain::run_row(list, &mut plain_incoming, outgoing, row),
+        || ffi::run(list, &mut proved_incoming, outgoing, row),
+        || plain::run_row(list, &mut plain_incoming, outgoing, row),
     );
     assert!(proved_incoming == plain_incoming, "the engines differ");
     times
 }
 
+/// A row of scalers to binary and back.
+fn compare_scalers() -> Times {
+    let given = scalers(Way::ToBinary);
+    let (mut proved, mut plain) = (given.clone(), given.clone());
+    let times = compare(
+        || [ffi::to_binary(&mut proved), ffi::to_decimal(&mut proved)],
+        || {
+            plain::scalers::to_binary(&mut plain)?;
+            plain::scalers::to_decimal(&mut plain)
+        },
+    );
+    assert!(proved == given && plain == given, "a row did not come back");
+    times
+}
+
 fn main() {
+    print_runs();
+    print_admissions();
+    print_scalers();
+}
+
+fn print_runs() {
     println!("Whole runs, admission and the row's check included. Nanoseconds a reply, medians of {TURNS} turns.");
     println!(
         "Incoming buffers are written once before the first turn and not cleared between turns."
@@ -71,6 +95,9 @@ fn main() {
             );
         }
     }
+}
+
+fn print_admissions() {
     println!("\nAdmission. Microseconds a call.");
     println!(
         "{:<22} {:>8} {:>8} {:>7}",
@@ -78,10 +105,25 @@ fn main() {
     );
     for (name, list) in admissions() {
         let times = compare(
-            || camlist::ffi::admit(&list, u64::MAX, u64::MAX),
-            || reference::plain::admit(&list, u64::MAX, u64::MAX),
+            || ffi::admit(&list, u64::MAX, u64::MAX),
+            || plain::admit(&list, u64::MAX, u64::MAX),
         );
         let (proved, plain) = (times.proved * 1e6, times.plain * 1e6);
         println!("{name:<22} {proved:>8.1} {plain:>8.1} {:>7.2}", times.ratio);
     }
+}
+
+fn print_scalers() {
+    println!("\nScalers to binary and back. Nanoseconds a longword.");
+    println!(
+        "{:<22} {:>8} {:>8} {:>7}",
+        "longwords", "proved", "plain", "ratio"
+    );
+    let times = compare_scalers();
+    let each = |seconds: f64| seconds * 1e9 / SCALERS as f64;
+    let (proved, plain) = (each(times.proved), each(times.plain));
+    println!(
+        "{SCALERS:<22} {proved:>8.2} {plain:>8.2} {:>7.2}",
+        times.ratio
+    );
 }

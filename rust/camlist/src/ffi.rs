@@ -19,6 +19,9 @@ pub const CALL_NUMBERS: usize = 8;
 /// Numbers of the answer of steps: number, place, taken, crate, N, A, F, data, enhanced.
 pub const STEPS_NUMBERS: usize = 9;
 
+/// Numbers of the answer of a conversion of scalers: number, place.
+pub const SCALERS_NUMBERS: usize = 2;
+
 /// Bytes of a code's name, blanks behind it included.
 pub const NAME_BYTES: usize = 16;
 
@@ -82,6 +85,18 @@ pub mod raw {
             replies: *const u8,
             replies_len: usize,
             answer: *mut [u64; STEPS_NUMBERS],
+        );
+
+        pub fn camlist_to_binary_v2(
+            row: *mut u8,
+            row_len: usize,
+            answer: *mut [u64; SCALERS_NUMBERS],
+        );
+
+        pub fn camlist_to_decimal_v2(
+            row: *mut u8,
+            row_len: usize,
+            answer: *mut [u64; SCALERS_NUMBERS],
         );
 
         pub fn camlist_code_name_v2(code: u64, name: *mut [u8; NAME_BYTES]);
@@ -205,6 +220,22 @@ pub fn steps(
             &mut answer,
         );
     }
+    answer
+}
+
+/// Converts a row of decimal scalers to binary.
+pub fn to_binary(row: &mut [u8]) -> [u64; SCALERS_NUMBERS] {
+    let mut answer = [0; SCALERS_NUMBERS];
+    // SAFETY: the row is valid for the call and lent to us alone, and the array is ours.
+    unsafe { raw::camlist_to_binary_v2(row.as_mut_ptr(), row.len(), &mut answer) };
+    answer
+}
+
+/// Converts a row of scalers from binary back.
+pub fn to_decimal(row: &mut [u8]) -> [u64; SCALERS_NUMBERS] {
+    let mut answer = [0; SCALERS_NUMBERS];
+    // SAFETY: as in `to_binary`.
+    unsafe { raw::camlist_to_decimal_v2(row.as_mut_ptr(), row.len(), &mut answer) };
     answer
 }
 

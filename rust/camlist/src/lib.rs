@@ -3,7 +3,8 @@
 //! A [`List`] is written, [`admit`] says whether it is well formed and what it can need at
 //! most, and a [`Run`] asks for one CAMAC operation after another and takes the replies.
 //! [`run()`] takes a row of replies that were collected before. A call that is refused
-//! changes nothing and says why ([`Refusal`]). A [`Word`] takes a stored longword apart.
+//! changes nothing and says why ([`Refusal`]). A [`Word`] takes a stored longword apart, and
+//! [`scalers`] converts rows of them between decimal and binary.
 //!
 //! ```
 //! use camlist::{admit, Camac, List, Reply, Run};
@@ -26,6 +27,7 @@ mod record;
 mod refusal;
 mod reply;
 mod run;
+pub mod scalers;
 mod status;
 mod word;
 

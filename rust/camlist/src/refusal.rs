@@ -19,30 +19,33 @@ use std::fmt;
 #[derive(Clone, Copy, Debug, PartialEq, Eq)]
 pub struct Refusal {
     pub reason: Reason,
-    /// Offset in the list of the refused field's first byte; 0 for other reasons.
+    /// Offset in the list of the refused field's first byte, up to [`Reason::Jump`]; offset in
+    /// the row of the refused longword, of [`Reason::Scaler`]; 0 for other reasons.
     pub place: usize,
 }
 
-impl Refusal {
-    /// The refusal of an answer's first two numbers; `None` for number 0.
-    pub(crate) fn of(number: u64, place: u64) -> Option<Refusal> {
-        let reason = Reason::ALL
-            .into_iter()
-            .find(|reason| reason.number() == number)?;
-        Some(Refusal {
+/// The refusal of an answer's first two numbers; none for number 0.
+pub(crate) fn refused_or(number: u64, place: u64) -> Result<(), Refusal> {
+    let mut reasons = Reason::ALL.into_iter();
+    match reasons.find(|reason| reason.number() == number) {
+        Some(reason) => Err(Refusal {
             reason,
             place: place as usize,
-        })
+        }),
+        None => Ok(()),
     }
 }
 
 impl fmt::Display for Refusal {
     fn fmt(&self, formatter: &mut fmt::Formatter) -> fmt::Result {
-        write!(formatter, "refusal {}", self.reason.number())?;
-        if self.reason.number() <= Reason::Jump.number() {
-            write!(formatter, " at byte {} of the list", self.place)?;
+        let Refusal { reason, place } = *self;
+        write!(formatter, "refusal {}", reason.number())?;
+        if reason <= Reason::Jump {
+            write!(formatter, " at byte {place} of the list")?;
+        } else if reason == Reason::Scaler {
+            write!(formatter, " at byte {place} of the row")?;
         }
-        write!(formatter, ": {}", self.reason)
+        write!(formatter, ": {reason}")
     }
 }
 
@@ -87,10 +90,15 @@ pub enum Reason {
     Record = 23,
     /// The record's first number is not 0: its run has ended.
     Ended = 24,
+    /// A row of scalers is no multiple of 4 bytes.
+    RowLength = 31,
+    /// A longword has a bit of 29 to 24 set; or, to binary, a digit above 9, to decimal a value
+    /// above 999,999.
+    Scaler = 32,
 }
 
 impl Reason {
-    pub const ALL: [Reason; 16] = [
+    pub const ALL: [Reason; 18] = [
         Reason::Cut,
         Reason::First,
         Reason::Tag,
@@ -107,6 +115,8 @@ impl Reason {
         Reason::Reply,
         Reason::Record,
         Reason::Ended,
+        Reason::RowLength,
+        Reason::Scaler,
     ];
 
     /// The number that the header has for it.
@@ -136,6 +146,10 @@ impl fmt::Display for Reason {
             Reason::Reply => "a reply is not well formed",
             Reason::Record => "the record does not fit the list",
             Reason::Ended => "the run has ended",
+            Reason::RowLength => "the row is not whole longwords",
+            Reason::Scaler => {
+                "a longword has a bit of 29 to 24, a digit above 9 or a value above 999,999"
+            }
         })
     }
 }

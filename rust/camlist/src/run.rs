@@ -2,7 +2,7 @@
 
 use crate::ffi;
 use crate::record::{Buffer, Note, Record};
-use crate::refusal::Refusal;
+use crate::refusal::{refused_or, Refusal};
 use crate::reply::Reply;
 use crate::status::Status;
 
@@ -35,13 +35,6 @@ pub fn admit(list: &[u8], incoming_len: u64, outgoing_len: u64) -> Result<Counts
         incoming,
         outgoing,
     })
-}
-
-fn refused_or(number: u64, place: u64) -> Result<(), Refusal> {
-    match Refusal::of(number, place) {
-        Some(refusal) => Err(refusal),
-        None => Ok(()),
-    }
 }
 
 /// A CAMAC operation for the adapter to make.

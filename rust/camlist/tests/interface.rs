@@ -2,7 +2,7 @@
 //! texts and names, and the example program. The types of this crate repeat its constants.
 
 use camlist::ffi::{self, raw, ADMIT_NUMBERS, CALL_NUMBERS, RUN_NUMBERS};
-use camlist::ffi::{NAME_BYTES, RECORD_NUMBERS, STEPS_NUMBERS};
+use camlist::ffi::{NAME_BYTES, RECORD_NUMBERS, SCALERS_NUMBERS, STEPS_NUMBERS};
 use camlist::{Camac, Code, Reason, Record, Reply, Status, Word};
 use reference::cases::by_hand::{double, list, ok, one, M15, M17};
 use reference::host::{admission_numbers, run_numbers, start_numbers, step_numbers, steps_numbers};
@@ -100,6 +100,17 @@ fn null_buffers() {
     }
 }
 
+/// The same of a row of scalers.
+#[test]
+fn null_rows() {
+    for convert in [raw::camlist_to_binary_v2, raw::camlist_to_decimal_v2] {
+        let mut answer = [7; SCALERS_NUMBERS];
+        // SAFETY: the length is 0, and the array is ours.
+        unsafe { convert(null_mut(), 0, &mut answer) };
+        assert_eq!(answer, [0, 0]);
+    }
+}
+
 /// The numbers written are those of the named sizes and no more.
 #[test]
 fn sizes_of_the_answers() {
@@ -147,6 +158,27 @@ fn sizes_of_the_answers() {
     assert_eq!(called, [[7; 8], [0; 8], [7; 8]]);
     assert_eq!(name, [[7; 16], *b"NO SYNC         ", [7; 16]]);
     assert_eq!(incoming, [1, 0, 0, 0, 0x5A, 0x5A, 0, 0]);
+}
+
+/// The same of a row of scalers, converted and refused.
+#[test]
+fn sizes_of_the_answers_on_rows() {
+    let mut row = [0, 0, 0, 0, 0, 0, 0, 1];
+    let cases = [
+        (0..4, [0, 0]),
+        (0..8, [32, 4]),
+        (4..8, [32, 0]),
+        (0..7, [31, 0]),
+    ];
+    for convert in [raw::camlist_to_binary_v2, raw::camlist_to_decimal_v2] {
+        for (part, expected) in cases.clone() {
+            let part = &mut row[part];
+            let mut answers = [[7; SCALERS_NUMBERS]; 3];
+            // SAFETY: the row and the array are valid for the call, and ours.
+            unsafe { convert(part.as_mut_ptr(), part.len(), &mut answers[1]) };
+            assert_eq!(answers, [[7; 2], expected, [7; 2]]);
+        }
+    }
 }
 
 /// "slices that are only read may overlap each other": the outgoing words are the list's own
@@ -217,6 +249,7 @@ fn sizes_of_the_header() {
         ("CALL_NUMBERS", CALL_NUMBERS),
         ("STEPS_NUMBERS", STEPS_NUMBERS),
         ("RUN_NUMBERS", RUN_NUMBERS),
+        ("SCALERS_NUMBERS", SCALERS_NUMBERS),
         ("RECORD_NUMBERS", RECORD_NUMBERS),
         ("NAME_BYTES", NAME_BYTES),
     ];
@@ -229,11 +262,21 @@ fn sizes_of_the_header() {
 fn symbols_of_the_header() {
     let version = constants("VERSION")[""];
     let header = header();
-    for name in ["admit", "start", "step", "steps", "run", "code_name"] {
+    let names = [
+        "admit",
+        "start",
+        "step",
+        "steps",
+        "run",
+        "code_name",
+        "to_binary",
+        "to_decimal",
+    ];
+    for name in names {
         let define = format!("#define camlist_{name} camlist_{name}_v{version}\n");
         assert!(header.contains(&define), "{define}");
     }
-    assert_eq!(header.matches("#define camlist_").count(), 6);
+    assert_eq!(header.matches("#define camlist_").count(), names.len());
 }
 
 /// The operation's numbers stand where the header says: a sequencer's write, whose six numbers

@@ -1,6 +1,6 @@
 //! The cases of documents 01 and 02 and the manual's examples, through the C interface.
 
-use camlist::ffi::{admit, run, start, step};
+use camlist::ffi::{admit, run, start, step, to_binary, to_decimal};
 use reference::cases::paper::{self, Engine};
 
 const ENGINE: Engine = Engine {
@@ -8,6 +8,8 @@ const ENGINE: Engine = Engine {
     run,
     start,
     step,
+    to_binary,
+    to_decimal,
 };
 
 #[test]
@@ -27,6 +29,13 @@ fn document_02() {
 #[test]
 fn steps_of_document_02() {
     for known in paper::steps() {
+        known.check(&ENGINE);
+    }
+}
+
+#[test]
+fn rows_of_document_02() {
+    for known in paper::rows() {
         known.check(&ENGINE);
     }
 }

@@ -1,7 +1,8 @@
 //! The types say what the numbers say, on random cases; the builders write what the separate
 //! build's drafts write.
 
-use camlist::{admit, ffi, run, Buffer, Camac, List, Operation, Record, Refusal, Reply, Run};
+use camlist::{admit, ffi, run, Buffer, Camac, List, Operation, Reason, Record, Refusal};
+use camlist::{Reply, Run};
 use reference::cases::calls::call_case;
 use reference::cases::lists::{Draft, DraftField, BITS_16, BLOCK, ENHANCED, INLINE};
 use reference::cases::rng::Rng;
@@ -125,6 +126,22 @@ fn runs() {
         if run.status().ended() {
             assert_eq!(run.step(Reply::timeout()).unwrap_err().reason.number(), 24);
         }
+    }
+}
+
+/// A place is in the list for 1 to 10, in the row for 32, and not said for others.
+#[test]
+fn places() {
+    for reason in Reason::ALL {
+        let number = reason.number();
+        let at = match number {
+            1..=10 => " at byte 12 of the list",
+            32 => " at byte 12 of the row",
+            _ => "",
+        };
+        let refusal = Refusal { reason, place: 12 };
+        let text = format!("refusal {number}{at}: {reason}");
+        assert_eq!(refusal.to_string(), text);
     }
 }
 

@@ -6,7 +6,7 @@
 //! belongs to a record that doesn't fit. A record refused keeps its numbers.
 
 use crate::run::RunAnswer;
-use crate::{admit, run_row, start, step, steps, Counts, Operation, Record, Refusal};
+use crate::{admit, run_row, scalers, start, step, steps, Counts, Operation, Record, Refusal};
 
 /// Number, place, W, B, O. Number 0 means not refused.
 pub fn admission_numbers(list: &[u8], incoming_len: u64, outgoing_len: u64) -> [u64; 5] {
@@ -77,6 +77,23 @@ pub fn steps_numbers(
     numbers
 }
 
+/// Converts a row of scalers to binary; number, place.
+pub fn to_binary_numbers(row: &mut [u8]) -> [u64; 2] {
+    refusal_numbers(scalers::to_binary(row).err())
+}
+
+/// Converts a row of scalers from binary back; number, place.
+pub fn to_decimal_numbers(row: &mut [u8]) -> [u64; 2] {
+    refusal_numbers(scalers::to_decimal(row).err())
+}
+
+/// Number and place; zeros where nothing was refused.
+fn refusal_numbers(refusal: Option<Refusal>) -> [u64; 2] {
+    refusal.map_or([0, 0], |refusal| {
+        [u64::from(refusal.number), refusal.place as u64]
+    })
+}
+
 /// The record of some numbers; one that fits no list where the status is too wide. The
 /// other numbers have as many bits here as they can have there.
 fn record_of(numbers: &[u64; 13]) -> Record {
@@ -88,9 +105,7 @@ fn record_of(numbers: &[u64; 13]) -> Record {
 }
 
 fn call_numbers(refusal: Option<Refusal>, wanted: &Operation) -> [u64; 8] {
-    let (number, place) = refusal.map_or((0, 0), |refusal| {
-        (u64::from(refusal.number), refusal.place as u64)
-    });
+    let [number, place] = refusal_numbers(refusal);
     let Operation {
         crate_number,
         n,

@@ -18,6 +18,7 @@ pub mod record;
 pub mod refusal;
 pub mod reply;
 pub mod run;
+pub mod scalers;
 pub mod scan;
 pub mod status;
 pub mod walk;

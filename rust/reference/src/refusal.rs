@@ -8,7 +8,7 @@ pub struct Refusal {
 }
 
 impl Refusal {
-    /// A refusal of the field that starts at `place`.
+    /// A refusal of the field, or of the longword of a row, that starts at `place`.
     pub fn at(number: u8, place: usize) -> Refusal {
         Refusal { number, place }
     }

@@ -2,6 +2,7 @@
 
 use reference::cases::paper::{self, Engine};
 use reference::host::{admission_numbers, run_numbers, start_numbers, step_numbers};
+use reference::host::{to_binary_numbers, to_decimal_numbers};
 
 const ENGINE: Engine = Engine {
     admit: admission_numbers,
@@ -12,6 +13,8 @@ const ENGINE: Engine = Engine {
         answer
     },
     step: step_numbers,
+    to_binary: to_binary_numbers,
+    to_decimal: to_decimal_numbers,
 };
 
 #[test]
@@ -31,6 +34,13 @@ fn document_02() {
 #[test]
 fn steps_of_document_02() {
     for known in paper::steps() {
+        known.check(&ENGINE);
+    }
+}
+
+#[test]
+fn rows_of_document_02() {
+    for known in paper::rows() {
         known.check(&ENGINE);
     }
 }

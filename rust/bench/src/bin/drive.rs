@@ -6,11 +6,15 @@
 //!   steps.
 //! - `drive ENGINE step INSTRUCTIONS` makes one step half-way through a list.
 //! - `drive ENGINE admit NUMBER` makes an admission.
+//! - `drive ENGINE to_binary scalers - LONGWORDS` converts a row of so many scalers, and
+//!   `drive ENGINE to_decimal scalers - LONGWORDS` one back.
 //!
 //! ENGINE is `proved` or `plain`; the plain one has no steps.
 
-use bench::{admissions, workloads, Answers, Halfway, CLEAN_REPLY, STEP_LISTS};
+use bench::{admissions, scalers, workloads, Answers, Halfway, CLEAN_REPLY, SCALERS, STEP_LISTS};
 use camlist::ffi;
+use reference::cases::scalers::Way;
+use reference::plain;
 use std::env;
 use std::hint::black_box;
 
@@ -34,6 +38,8 @@ fn main() {
         }
         ["proved", "step", instructions] => step(index(instructions)),
         [engine, "admit", number] => admit(engine == "proved", index(number)),
+        [engine, "to_binary", _, _, longwords] => to_binary(engine == "proved", index(longwords)),
+        [engine, "to_decimal", _, _, longwords] => to_decimal(engine == "proved", index(longwords)),
         _ => panic!("see the comment at this program's head"),
     }
 }
@@ -64,6 +70,8 @@ fn print_calls() {
     for (number, (name, _)) in admissions().iter().enumerate() {
         println!("admit {number} {name}");
     }
+    println!("to_binary scalers - {SCALERS} to binary");
+    println!("to_decimal scalers - {SCALERS} to decimal");
 }
 
 fn run(proved: bool, number: usize, answers: &str, replies: usize) {
@@ -75,12 +83,7 @@ fn run(proved: bool, number: usize, answers: &str, replies: usize) {
         if proved {
             black_box(ffi::run(list, &mut incoming, outgoing, row));
         } else {
-            black_box(reference::plain::run_row(
-                list,
-                &mut incoming,
-                outgoing,
-                row,
-            ));
+            black_box(plain::run_row(list, &mut incoming, outgoing, row));
         }
     });
 }
@@ -120,7 +123,29 @@ fn admit(proved: bool, number: usize) {
         if proved {
             black_box(ffi::admit(list, u64::MAX, u64::MAX));
         } else {
-            let _ = black_box(reference::plain::admit(list, u64::MAX, u64::MAX));
+            let _ = black_box(plain::admit(list, u64::MAX, u64::MAX));
+        }
+    });
+}
+
+fn to_binary(proved: bool, longwords: usize) {
+    let row = &mut scalers(Way::ToBinary)[..4 * longwords];
+    measured(&mut || {
+        if proved {
+            black_box(ffi::to_binary(row));
+        } else {
+            let _ = black_box(plain::scalers::to_binary(row));
+        }
+    });
+}
+
+fn to_decimal(proved: bool, longwords: usize) {
+    let row = &mut scalers(Way::ToDecimal)[..4 * longwords];
+    measured(&mut || {
+        if proved {
+            black_box(ffi::to_decimal(row));
+        } else {
+            let _ = black_box(plain::scalers::to_decimal(row));
         }
     });
 }

@@ -4,10 +4,11 @@
 #![allow(dead_code)]
 
 use camlist::ffi;
+use reference::cases::scalers::Way;
 use reference::host;
 use std::fmt::Arguments;
 
-/// Bytes before and behind the incoming buffer, which nobody may touch.
+/// Bytes before and behind a buffer, which nobody may touch.
 const FENCE: [u8; 32] = [0xC5; 32];
 
 /// What a call may change.
@@ -116,22 +117,49 @@ fn compare_call<const NUMBERS: usize>(
     }
 }
 
-/// Gives each call a copy of the incoming buffer between fences, at any address, and
-/// compares what they answer and every byte.
+/// The library's conversion of a row of scalers.
+pub fn convert(way: Way, row: &mut [u8]) -> [u64; ffi::SCALERS_NUMBERS] {
+    match way {
+        Way::ToBinary => ffi::to_binary(row),
+        Way::ToDecimal => ffi::to_decimal(row),
+    }
+}
+
+/// Compares the conversions of a row of scalers, at an address that `shift` moves: answer,
+/// bytes and fences; what the row is afterwards.
+pub fn compare_scalers(
+    way: Way,
+    row: &[u8],
+    shift: usize,
+    what: Arguments,
+) -> ([u64; ffi::SCALERS_NUMBERS], Vec<u8>) {
+    let separate = match way {
+        Way::ToBinary => host::to_binary_numbers,
+        Way::ToDecimal => host::to_decimal_numbers,
+    };
+    let (answer, after) = compare_fenced(shift, row, |row| convert(way, row), separate, what);
+    if answer[0] != 0 {
+        assert!(after == row, "refused, yet converted: {what}");
+    }
+    (answer, after)
+}
+
+/// Gives each call a copy of a buffer between fences, at any address, and compares what they
+/// answer and every byte.
 fn compare_fenced<Answer: PartialEq + std::fmt::Debug>(
     shift: usize,
-    incoming: &[u8],
+    given: &[u8],
     proved: impl FnOnce(&mut [u8]) -> Answer,
     separate: impl FnOnce(&mut [u8]) -> Answer,
     what: Arguments,
 ) -> (Answer, Vec<u8>) {
     let start = FENCE.len() - shift % 8;
-    let mut fenced = [&FENCE[..start], incoming, &FENCE].concat();
-    let buffer = start..start + incoming.len();
+    let mut fenced = [&FENCE[..start], given, &FENCE].concat();
+    let buffer = start..start + given.len();
     let mut expected = fenced.clone();
     let answer = proved(&mut fenced[buffer.clone()]);
     let expected_answer = separate(&mut expected[buffer.clone()]);
     assert_eq!(answer, expected_answer, "{what}");
-    assert!(fenced == expected, "incoming bytes differ: {what}");
+    assert!(fenced == expected, "bytes differ: {what}");
     (answer, fenced[buffer].to_vec())
 }

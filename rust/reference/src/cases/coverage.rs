@@ -1,5 +1,6 @@
 //! What a set of cases has met. A comparison that never met one of these proves little.
 
+mod scalers;
 mod short;
 
 use std::collections::BTreeMap;
@@ -7,6 +8,7 @@ use std::collections::BTreeMap;
 use super::calls::{CallCase, Origin, NARROW};
 use super::lists::{ENHANCED, MODE, Q_MODE};
 use super::records::StepCase;
+use super::scalers::Way;
 use super::Case;
 use crate::fit::{broken_clause, Clause};
 use crate::host::{start_numbers, step_numbers, steps_numbers};
@@ -20,6 +22,7 @@ use crate::run::{begin, current_camac, take};
 use crate::status;
 use crate::walk::{admission, Admitted};
 use crate::words::{enhanced_fault, Camac, Direction, EnhancedFault, QMode, Transfer, WordSize};
+pub use scalers::{Fault, Longword};
 pub use short::{Buffer, ClosedAt, Follower, StopBlock};
 
 /// A scan's positions from N 1, A 0.
@@ -179,6 +182,15 @@ pub enum Event {
     StepsPastEnd,
     /// Steps refused with this number.
     StepsRefused(u8),
+    /// A row of scalers converted this way; an empty one.
+    Converted(Way),
+    NoScaler(Way),
+    /// Refusal 31, without and with a longword that 32 would refuse.
+    PartLongword(Way, bool),
+    /// Refusal 32 for this, with the longword there, and with another one refused behind it.
+    RefusedScaler(Way, Fault),
+    RefusedAt(Way, Longword),
+    FaultsBehind(Way),
 }
 
 /// Counters of events.

@@ -1,5 +1,5 @@
-//! Cases for comparison: lists, buffers and rows of replies, made from a seed and a
-//! number. The same seed and number give the same case.
+//! Cases for comparison: lists, buffers, rows of replies and rows of scalers, made from a
+//! seed and a number. The same seed and number give the same case.
 
 pub mod by_hand;
 pub mod calls;
@@ -10,6 +10,7 @@ pub mod paper;
 pub mod records;
 pub mod rng;
 pub mod rows;
+pub mod scalers;
 pub mod short;
 
 use crate::walk::{admission, Admitted};

@@ -4,10 +4,12 @@
 
 mod damaged;
 mod longwords;
+mod scalers;
 mod short_blocks;
 
 use super::by_hand::*;
 use crate::camrun::MOST_BYTES;
+pub use scalers::KnownRow;
 
 /// List, both buffer lengths.
 type Admit = fn(&[u8], u64, u64) -> [u64; 5];
@@ -17,6 +19,8 @@ type Run = fn(&[u8], &mut [u8], &[u8], &[u8]) -> [u64; 16];
 type Start = fn(&[u8], &mut [u8], &[u8], &mut [u64; 13]) -> [u64; 8];
 /// List, record, incoming, outgoing, reply.
 type Step = fn(&[u8], &mut [u64; 13], &mut [u8], &[u8], &[u8]) -> [u64; 8];
+/// Row of scalers.
+type Convert = fn(&mut [u8]) -> [u64; 2];
 
 /// An engine's calls, in the numbers of the C interface.
 pub struct Engine {
@@ -24,6 +28,8 @@ pub struct Engine {
     pub run: Run,
     pub start: Start,
     pub step: Step,
+    pub to_binary: Convert,
+    pub to_decimal: Convert,
 }
 
 /// One case and its outcome, in camrun's words.
@@ -307,6 +313,16 @@ pub fn steps() -> Vec<KnownStep> {
         short_blocks::marks(),
     ]
     .concat()
+}
+
+/// Rows of scalers.
+pub fn rows() -> Vec<KnownRow> {
+    let rows = [
+        scalers::converted(),
+        scalers::bad_longwords(),
+        scalers::parts(),
+    ];
+    rows.into_iter().flatten().collect()
 }
 
 /// E1: the list sequencer, R = 1.

@@ -1,12 +1,14 @@
-//! Admission and the whole run once more, as fast as plain safe Rust makes them: the base
-//! line of the benchmark.
+//! Admission, the whole run and the conversion of scalers once more, as fast as plain safe
+//! Rust makes them: the base line of the benchmark.
 //!
-//! They yield what `walk::admit` and `run::run_row` yield. One pass checks the row. Then
-//! each visit of the walk looks at its instruction once and takes the answers that are no
-//! cause in a loop of its own, eight at a time where it can; the reply that stops that loop
-//! short of the last word closes a stop block or ends the run.
+//! They yield what `walk::admit` and `run::run_row` yield, and `scalers` what the module of
+//! that name yields. In a whole run one pass checks the row. Then each visit of the walk looks
+//! at its instruction once and takes the answers that are no cause in a loop of its own, eight
+//! at a time where it can; the reply that stops that loop short of the last word closes a stop
+//! block or ends the run.
 
 mod plan;
+pub mod scalers;
 
 use crate::packing::{self, LITERAL_BYTES};
 use crate::record::{Note, Record};

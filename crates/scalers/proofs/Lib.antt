@@ -1,0 +1,9 @@
+pub mod DigitLaws
+pub mod LongwordLaws
+pub mod RowLaws
+pub mod BothRoutes
+pub mod Examples
+pub mod Sums
+pub mod Carries
+pub mod Bad
+pub mod Loops

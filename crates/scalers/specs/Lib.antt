@@ -1,0 +1,3 @@
+pub mod Scalers
+pub mod BothRoutes
+pub mod Examples
