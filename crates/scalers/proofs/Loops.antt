@@ -17,11 +17,10 @@ use Rattle.scalers.proofs.RowLaws.{longwords-more, longwords-none, conv
 
 pub record Checking (way : Way) (row : List ℕ) (at : ℕ) : Type 0 where
   pub whole : at % 4 ≡ 0
-  pub within : at ≤ length row
   pub same : checkedFrom way 0 (longwordsIn row) ≡ checkedFrom way at (longwordsIn (drop at row))
 
 pub checking-none : (way : Way) (row : List ℕ) → Checking way row 0
-checking-none way row = record { whole = refl; within = omega arith; same = refl }
+checking-none way row = record { whole = refl; same = refl }
 
 module _ {way : Way} {row : List ℕ} {at : ℕ} (k : Checking way row at) where
   pub checking-bad : at + 4 ≤ length row → isBad way (longAt row at) ≡ true → Bad at ≡ checkedFrom way 0 (longwordsIn row)
@@ -32,7 +31,6 @@ module _ {way : Way} {row : List ℕ} {at : ℕ} (k : Checking way row at) where
   unfolding checkedFrom
   checking-next h e = record {
     whole = omega (arith, k .whole);
-    within = h;
     same = k .same ∙ ap (checkedFrom way at) (longwords-more row at h) ∙ rw e;
   }
 
@@ -44,13 +42,12 @@ module _ {way : Way} {row : List ℕ} {at : ℕ} (k : Checking way row at) where
 
 pub record Converting (way : Way) (row₀ : List ℕ) (row : List ℕ) (at : ℕ) : Type 0 where
   pub whole : at % 4 ≡ 0
-  pub within : at ≤ length row
   pub as-long : length row ≡ length row₀
   pub passes : checkedFrom way at (longwordsIn (drop at row)) ≡ Passes
   pub same : take at row ++ convertedRow way (drop at row) ≡ convertedRow way row₀
 
 pub converting-none : (way : Way) (row : List ℕ) → checkedFrom way 0 (longwordsIn row) ≡ Passes → Converting way row row 0
-converting-none way row e = record { whole = refl; within = omega arith; as-long = refl; passes = e; same = refl }
+converting-none way row e = record { whole = refl; as-long = refl; passes = e; same = refl }
 
 module _ {way : Way} {row₀ row : List ℕ} {at : ℕ} (k : Converting way row₀ row at) where
   passed : at + 4 ≤ length row → (isBad way (longAt row at) ≡ false) × (checkedFrom way (at + 4) (longwordsIn (drop (at + 4) row)) ≡ Passes)
@@ -69,7 +66,6 @@ module _ {way : Way} {row₀ row : List ℕ} {at : ℕ} (k : Converting way row�
       let rest : drop (at + 4) (sets row at bytes) ≡ behind = ap (drop (at + 4)) put ∙ drop-at before behind (at + 4) size in
       record {
         whole = omega (arith, k .whole);
-        within = omega (arith, length-sets row at bytes);
         as-long = length-sets row at bytes ∙ k .as-long;
         passes = ap (λ (l : List ℕ). checkedFrom way (at + 4) (longwordsIn l)) rest ∙ passed h .1;
         same =

@@ -12,7 +12,7 @@ use Rattle.base.specs.Checks.{if_then_else_}
 use Rattle.scalers.specs.declared.longwords.Way.{Way}
 use Rattle.scalers.specs.declared.rows.Checked.{Checked}
 use Rattle.scalers.specs.declared.rows.Checked.the-variants.{Passes, Bad}
-use Rattle.scalers.specs.Scalers.{isBad, convertedTo, longwordsIn, rowOf, checkedFrom, convertedRow, refusedWith, judged, convertOf}
+use Rattle.scalers.specs.Scalers.{isBad, convertedTo, longwordsIn, rowOf, checkedFrom, convertedRow, leaving, judged, convertOf}
 
 -- Longwords from a place on ----------------------------------------------------------------------------------------------
 
@@ -59,7 +59,7 @@ passes-both way at w ws e = go (isBad way w) refl e
 
 -- A call -----------------------------------------------------------------------------------------------------------------
 
-pub no-longwords : (way : Way) (row : List ℕ) → ¬ (length row % 4 ≡ 0) → convertOf way row ≡ refusedWith 31 0 row
+pub no-longwords : (way : Way) (row : List ℕ) → ¬ (length row % 4 ≡ 0) → convertOf way row ≡ leaving 31 0 row
 unfolding convertOf
 no-longwords way row h = rw (ne-eqb (length row % 4) 0 h)
 

@@ -17,13 +17,13 @@ packed-digits w = simp div-div-eq-div-mul
 
 -- To binary --------------------------------------------------------------------------------------------------------------
 
-abbrev pub tensIn : ℕ → ℕ
+abbrev tensIn : ℕ → ℕ
 tensIn w = w / 16 % 16 + w / 4096 % 16 * 256 + w / 1048576 % 16 * 65536
 
-abbrev pub pairsIn : ℕ → ℕ
+abbrev pairsIn : ℕ → ℕ
 pairsIn w = w - tensIn w * 6
 
-abbrev pub binarySum : ℕ → ℕ
+abbrev binarySum : ℕ → ℕ
 binarySum w = w / 1073741824 * 1073741824 + pairsIn w % 256 + pairsIn w / 256 % 256 * 100 + pairsIn w / 65536 % 256 * 10000
 
 -- a longword of six digits and what lies above them

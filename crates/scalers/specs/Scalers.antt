@@ -35,7 +35,7 @@ anyAbove9 (d ∷ ds) = ltb 9 d || anyAbove9 ds
 abbrev pub packedIn : ℕ → List ℕ
 packedIn w = digits 16 6 w
 
--- the six decimal digits of the value in these bits
+-- the six digits of a value in the same bits: "Values are 0 to 999,999"
 abbrev pub decimalsIn : ℕ → List ℕ
 decimalsIn w = digits 10 6 (bits 23 0 w)
 
@@ -43,6 +43,7 @@ decimalsIn w = digits 10 6 (bits 23 0 w)
 abbrev pub keptOf : ℕ → ℕ
 keptOf w = bits 31 30 w * 2 ^ 30
 
+-- "to binary": the number of the digits; "and from binary back": the digits of the number, packed
 unfoldable pub convertedTo : Way → ℕ → ℕ
 convertedTo ToBinary w = keptOf w + number 10 (packedIn w)
 convertedTo ToDecimal w = keptOf w + number 16 (decimalsIn w)
@@ -76,7 +77,7 @@ unfoldable pub checkedFrom : Way → ℕ → List ℕ → Checked
 checkedFrom way at [] = Passes
 checkedFrom way at (w ∷ ws) = if isBad way w then Bad at else checkedFrom way (at + 4) ws
 
--- every longword converted
+-- "Convert a row of stored longwords": each of them
 unfoldable pub convertedRow : Way → List ℕ → List ℕ
 convertedRow way row = rowOf (map (convertedTo way) (longwordsIn row))
 
@@ -87,13 +88,15 @@ pub record Outcome : Type 0 where
   pub refusal : Refusal
   pub row : List ℕ
 
-abbrev pub refusedWith : ℕ → ℕ → List ℕ → Outcome
-refusedWith n place row = record { refusal = record { number = n; place = place }; row = row }
+-- a refusal's number and place, 0 and 0 for none, and a row
+abbrev pub leaving : ℕ → ℕ → List ℕ → Outcome
+leaving n place row = record { refusal = record { number = n; place = place }; row = row }
 
+-- "in each case the row is unconverted"
 abbrev pub judged : Way → List ℕ → Checked → Outcome
-judged way row Passes = record { refusal = record { number = 0; place = 0 }; row = convertedRow way row }
-judged way row (Bad at) = refusedWith 32 at row
+judged way row Passes = leaving 0 0 (convertedRow way row)
+judged way row (Bad at) = leaving 32 at row
 
--- "31 for a row that isn't whole longwords; then 32"; "in each case the row is unconverted"
+-- "31 for a row that isn't whole longwords; then 32"
 unfoldable pub convertOf : Way → List ℕ → Outcome
-convertOf way row = if eqb (length row % 4) 0 then judged way row (checkedFrom way 0 (longwordsIn row)) else refusedWith 31 0 row
+convertOf way row = if eqb (length row % 4) 0 then judged way row (checkedFrom way 0 (longwordsIn row)) else leaving 31 0 row

@@ -1,14 +1,15 @@
 //! The header's functions that write lists and replies, beside this crate's: parts in range
 //! and too wide, with room and without.
 
+#[path = "common/fed.rs"]
+mod fed;
 #[path = "common/program.rs"]
 mod program;
 
 use camlist::{Camac, List, Reply};
+use fed::printed;
 use program::program;
 use reference::cases::rng::Rng;
-use std::io::Write;
-use std::process::{Command, Stdio};
 
 const SCRIPTS: u64 = 3_000;
 const SEED: u64 = 50;
@@ -203,17 +204,7 @@ fn lists_and_replies() {
     let mut rng = Rng::new(SEED);
     let scripts = (0..SCRIPTS).map(|_| script(&mut rng));
     let (lines, expected): (String, String) = scripts.unzip();
-    let mut running = Command::new(program("builders", &[]))
-        .stdin(Stdio::piped())
-        .stdout(Stdio::piped())
-        .spawn()
-        .expect("the program runs");
-    let mut input = running.stdin.take().expect("its input");
-    let writer = std::thread::spawn(move || input.write_all(lines.as_bytes()));
-    let output = running.wait_with_output().expect("the program ends");
-    writer.join().expect("a thread").expect("lines taken");
-    assert!(output.status.success());
-    let printed = String::from_utf8(output.stdout).expect("text");
+    let printed = printed(program("builders", &[]), lines.into_bytes());
     for (number, (printed, expected)) in printed.lines().zip(expected.lines()).enumerate() {
         assert_eq!(printed, expected, "room {number}");
     }

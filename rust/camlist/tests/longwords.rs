@@ -1,14 +1,15 @@
 //! Stored longwords taken apart, by the header's functions and by this crate's: any bytes, and
 //! words that the engine stored.
 
+#[path = "common/fed.rs"]
+mod fed;
 #[path = "common/program.rs"]
 mod program;
 
 use camlist::{row, run, Camac, List, Reply, Run, Word};
+use fed::printed;
 use program::program;
 use reference::cases::rng::Rng;
-use std::io::Write;
-use std::process::{Command, Stdio};
 
 const LONGWORDS: usize = 10_000;
 const SEED: u64 = 60;
@@ -26,19 +27,9 @@ fn any_longwords() {
     let mut longwords: Vec<[u8; 4]> = (0..32).map(|bit| (1_u32 << bit).to_le_bytes()).collect();
     longwords.extend([[0; 4], [0xFF; 4]]);
     longwords.resize_with(LONGWORDS, || (rng.number() as u32).to_le_bytes());
-    let input = longwords.concat();
-    let mut running = Command::new(program("longwords", &[]))
-        .stdin(Stdio::piped())
-        .stdout(Stdio::piped())
-        .spawn()
-        .expect("the program runs");
-    let mut stdin = running.stdin.take().expect("its input");
-    let writer = std::thread::spawn(move || stdin.write_all(&input));
-    let output = running.wait_with_output().expect("the program ends");
-    writer.join().expect("a thread").expect("bytes taken");
-    assert!(output.status.success());
+    let printed = printed(program("longwords", &[]), longwords.concat());
     let expected: String = longwords.iter().map(line).collect();
-    assert!(output.stdout == expected.as_bytes());
+    assert!(printed == expected);
 }
 
 /// Each part of a longword is the bits that document 02's E9 names.

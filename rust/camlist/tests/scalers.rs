@@ -2,6 +2,8 @@
 //! build. Every row lies between fences, and a refused one must keep every byte.
 
 mod common;
+#[path = "common/fed.rs"]
+mod fed;
 #[path = "common/program.rs"]
 mod program;
 #[path = "common/seed.rs"]
@@ -9,13 +11,12 @@ mod seed;
 
 use camlist::{ffi, scalers, Reason, Refusal};
 use common::{compare_scalers, convert};
+use fed::printed;
 use program::program;
 use reference::cases::coverage::Coverage;
 use reference::cases::paper;
 use reference::cases::rng::Rng;
 use reference::cases::scalers::{bytes, row, Way, TOPS, VALUES};
-use std::io::Write;
-use std::process::{Command, Stdio};
 
 /// Debug builds look at fewer cases.
 const CASES: u64 = if cfg!(debug_assertions) {
@@ -346,17 +347,7 @@ fn rows_from_c() {
         lines(way, &row, answer, &after)
     });
     let (input, expected): (String, String) = known.chain(random).unzip();
-    let mut running = Command::new(program("scalers", &[]))
-        .stdin(Stdio::piped())
-        .stdout(Stdio::piped())
-        .spawn()
-        .expect("the program runs");
-    let mut stdin = running.stdin.take().expect("its input");
-    let writer = std::thread::spawn(move || stdin.write_all(input.as_bytes()));
-    let output = running.wait_with_output().expect("the program ends");
-    writer.join().expect("a thread").expect("lines taken");
-    assert!(output.status.success(), "{}", output.status);
-    let printed = String::from_utf8(output.stdout).expect("text");
+    let printed = printed(program("scalers", &[]), input.into_bytes());
     for (printed, expected) in printed.lines().zip(expected.lines()) {
         assert_eq!(printed, expected);
     }

@@ -38,8 +38,12 @@ fn main() {
         }
         ["proved", "step", instructions] => step(index(instructions)),
         [engine, "admit", number] => admit(engine == "proved", index(number)),
-        [engine, "to_binary", _, _, longwords] => to_binary(engine == "proved", index(longwords)),
-        [engine, "to_decimal", _, _, longwords] => to_decimal(engine == "proved", index(longwords)),
+        [engine, "to_binary", _, _, longwords] => {
+            convert(engine == "proved", Way::ToBinary, index(longwords))
+        }
+        [engine, "to_decimal", _, _, longwords] => {
+            convert(engine == "proved", Way::ToDecimal, index(longwords))
+        }
         _ => panic!("see the comment at this program's head"),
     }
 }
@@ -128,24 +132,12 @@ fn admit(proved: bool, number: usize) {
     });
 }
 
-fn to_binary(proved: bool, longwords: usize) {
-    let row = &mut scalers(Way::ToBinary)[..4 * longwords];
-    measured(&mut || {
-        if proved {
-            black_box(ffi::to_binary(row));
-        } else {
-            let _ = black_box(plain::scalers::to_binary(row));
-        }
-    });
-}
-
-fn to_decimal(proved: bool, longwords: usize) {
-    let row = &mut scalers(Way::ToDecimal)[..4 * longwords];
-    measured(&mut || {
-        if proved {
-            black_box(ffi::to_decimal(row));
-        } else {
-            let _ = black_box(plain::scalers::to_decimal(row));
-        }
+fn convert(proved: bool, way: Way, longwords: usize) {
+    let row = &mut scalers(way)[..4 * longwords];
+    measured(&mut || match (proved, way) {
+        (true, Way::ToBinary) => drop(black_box(ffi::to_binary(row))),
+        (true, Way::ToDecimal) => drop(black_box(ffi::to_decimal(row))),
+        (false, Way::ToBinary) => drop(black_box(plain::scalers::to_binary(row))),
+        (false, Way::ToDecimal) => drop(black_box(plain::scalers::to_decimal(row))),
     });
 }

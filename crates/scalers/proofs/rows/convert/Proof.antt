@@ -5,7 +5,7 @@ use mathlib.Core.Path.{_≡_, sym, ap, _∙_}
 use mathlib.Core.List.{List}
 use native.Mathlib.Omega.{arith}
 use Rattle.base.specs.declared.Refusal.{Refusal}
-use Rattle.scalers.specs.Scalers.{Outcome}
+use Rattle.scalers.specs.Scalers.{Outcome, leaving}
 use Rattle.scalers.proofs.RowLaws.{no-longwords, by-check}
 use Rattle.scalers.proofs.rows.convert.Statement.{statement}
 use Rattle.scalers.proofs.rows.convert.Tie as tie
@@ -46,7 +46,7 @@ returns-3 c =
     let at-check = c .before .before .before .before .before .before in
     let called = c .before .before .convert-all in
     parts (by-check _ _ (at-check .before .before .if1 .left) (sym (c .before .before .before .before .enum-told .given .1) ∙ at-check .check .ensures)
-    ∙ ap (λ (row : List ℕ). record { refusal = record { number = 0; place = 0 }; row = row }) (sym (called .ensures)))
+    ∙ ap (leaving 0 0) (sym (called .ensures)))
 
 pub convert-spec : {M : Type 1} → statement M
 convert-spec =
