@@ -14,32 +14,23 @@ use crate::types;
 use crate::verdict::{self, Report, Verdict};
 
 /// A theorem: its crate, the file of the crate's proofs that has it, and its name.
-pub struct Theorem {
-    owner: &'static str,
-    module: &'static str,
-    name: &'static str,
-}
+pub struct Theorem(&'static str, &'static str, &'static str);
 
-const fn theorem(owner: &'static str, module: &'static str, name: &'static str) -> Theorem {
-    Theorem {
-        owner,
-        module,
-        name,
-    }
-}
+/// Worked examples, each an equation whose sides are computed.
+const EXAMPLES: Theorem = Theorem("scalers", "Examples", "examples");
 
 /// The worst count; where the words behind a short block lie; both routes of decimal
 /// scalers return the row; their worked examples.
 pub const THEOREMS: [Theorem; 4] = [
-    theorem("worst_count", "Bound", "worst-count"),
-    theorem("worst_count", "ShortBlocks", "short-blocks"),
-    theorem("scalers", "BothRoutes", "both-routes"),
-    theorem("scalers", "Examples", "examples"),
+    Theorem("worst_count", "Bound", "worst-count"),
+    Theorem("worst_count", "ShortBlocks", "short-blocks"),
+    Theorem("scalers", "BothRoutes", "both-routes"),
+    EXAMPLES,
 ];
 
 /// The crates of the theorems.
 fn owners() -> BTreeSet<&'static str> {
-    THEOREMS.iter().map(|theorem| theorem.owner).collect()
+    THEOREMS.iter().map(|theorem| theorem.0).collect()
 }
 
 /// A law file: `crates/CRATE/proofs/MODULE.antt`.
@@ -63,7 +54,7 @@ fn cited(line: &str) -> Option<Law> {
 /// The law files that the theorems' files cite, whatever lies between, and themselves.
 fn laws(root: &Path) -> Result<BTreeSet<Law>, String> {
     let mut found = BTreeSet::new();
-    let own = |theorem: &Theorem| (theorem.owner.to_string(), theorem.module.to_string());
+    let own = |theorem: &Theorem| (theorem.0.to_string(), theorem.1.to_string());
     let mut open: Vec<Law> = THEOREMS.iter().map(own).collect();
     while let Some(law) = open.pop() {
         if found.contains(&law) {
@@ -179,6 +170,7 @@ impl Base {
 /// whose law files are those that the theorems cite.
 fn falls(reports: &[Report]) -> bool {
     let is_lower = |r: &Report| !owners().iter().any(|owner| is_in(r, owner));
+    let is_theorem = |r: &Report| THEOREMS.iter().any(|theorem| is(r, theorem));
     reports.iter().any(|r| is_lower(r) || is_theorem(r))
 }
 
@@ -186,18 +178,17 @@ fn is_in(report: &Report, owner: &str) -> bool {
     report.file.starts_with(&format!("crates/{owner}/"))
 }
 
-fn is_theorem(report: &Report) -> bool {
-    let is = |theorem: &Theorem| is_in(report, theorem.owner) && report.law == theorem.name;
-    THEOREMS.iter().any(is)
+fn is(report: &Report, theorem: &Theorem) -> bool {
+    is_in(report, theorem.0) && report.law == theorem.2
 }
 
-/// A theorem is refused by itself, as examples are by what they compute to; or else the
-/// first error must be a fact, and a theorem must fall with it.
+/// An example that computes to something else is a fact, whatever else is refused. If there
+/// is none, the first error must be a fact, and a theorem must fall with it.
 fn judge(reports: &[Report]) -> Verdict {
     let causes = verdict::causes(reports);
-    let itself = causes.iter().find(|r| is_theorem(r));
-    if let Some(&theorem) = itself {
-        return verdict::judge(std::slice::from_ref(theorem));
+    let example = causes.iter().find(|r| is(r, &EXAMPLES));
+    if let Some(&example) = example {
+        return verdict::judge(std::slice::from_ref(example));
     }
     match (verdict::judge(reports), causes.first()) {
         (Verdict::Fact(fact), Some(&first)) if *first != fact => Verdict::Misfit(first.clone()),
@@ -274,7 +265,7 @@ mod tests {
         let own = report("crates/worst_count/proofs/A.antt", "a", "`omega`: no");
         let theorem = report(
             "crates/worst_count/proofs/Bound.antt",
-            THEOREMS[0].name,
+            THEOREMS[0].2,
             "`a` was not admitted",
         );
         let lower = report("crates/walk/proofs/B.antt", "b", "`omega`: no");
@@ -284,7 +275,7 @@ mod tests {
     }
 
     #[test]
-    fn a_theorem_refused_by_itself() {
+    fn an_example_that_computes_to_something_else() {
         let report = |module: &str, law: &str, message: &str| Report {
             file: format!("crates/scalers/proofs/{module}.antt"),
             line: 1,
