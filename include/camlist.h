@@ -1,29 +1,33 @@
 /*
  * The crate list engine for hosts in C and C++. Lists, replies, packing, status and refusals are those of document 01, "The crate list engine",
  * with enhanced blocks and the list sequencer (document 02, E1), with runs that a damaged command ends (E4), with stop blocks that Q = 0 closes
- * (E8), with Q and X in the longwords of 24-bit words (E9), and with decimal scalers converted to binary and back (E10).
+ * (E8), with Q and X in the longwords of 24-bit words (E9), with decimal scalers converted to binary and back (E10), and with demands kept beside
+ * the run (E2).
  * Link libhost.a, which `rt staticlib host` makes for x86-64 Linux; every function that is declared and not defined here is proved.
  *
  * Which call. camlist_admit says whether a list is well formed and what it can need. A host that drives a crate calls camlist_start, makes the
  * operation that its answer wants, gives the reply to camlist_step, and so on until the record has ended. A host whose replies come many at a
  * time (an adapter's FIFO) gives them to camlist_steps, which goes on from a record as camlist_step does. camlist_run is start and all replies in
  * one call: it begins at the list's start each time, and camlist_step goes on from the record in its answer. camlist_to_binary and
- * camlist_to_decimal convert words that were stored, and take no list.
+ * camlist_to_decimal convert words that were stored, and take no list. camlist_demand_add and camlist_demand_row keep the demands that crates send
+ * while a list runs, camlist_demand_take yields the oldest and camlist_demand_clear drops them all: they take a queue alone.
  *
  * Cost. Every call on a list reads the whole of it and follows its walk anew: a step takes some 10,000 instructions for a short list and 0.6 million
  * for one of 4,000 fields. For many replies prefer camlist_steps or camlist_run, which read it once and take some 10 to 700 instructions a reply. A
- * row of scalers is gone over twice, once to judge it and once to convert it: some 10 to 16 instructions a longword of a long row.
+ * row of scalers is gone over twice, once to judge it and once to convert it: some 10 to 16 instructions a longword of a long row. A demand takes
+ * some 40 instructions to add and to take, 17 in a long row.
  *
  * Arguments. A slice is a pointer and its length in bytes; NULL is fine where the length is 0. Byte slices need no alignment, arrays of uint64_t
- * that of uint64_t; arrays may not be NULL. What a call writes (`incoming`, `record`, `answer`, `name`, a row of scalers) overlaps no other
- * argument; slices that are only read may overlap each other. Nothing is kept between calls, so that threads may call at once. A call takes up to
- * 10 KiB of stack, never allocates, never blocks and always returns: no list, record, reply or row, however wrong, makes it do anything but refuse.
+ * that of uint64_t; arrays may not be NULL. What a call writes (`incoming`, `record`, `answer`, `name`, a row of scalers, a queue) overlaps no
+ * other argument; slices that are only read may overlap each other. Nothing is kept between calls, so that threads may call at once, each with
+ * buffers of its own: a queue to which an interrupt or another thread adds while this one takes wants a lock. A call takes up to 10 KiB of stack,
+ * never allocates, never blocks and always returns: no list, record, reply, row or queue, however wrong, makes it do anything but refuse.
  *
  * Versions. The names below stand for symbols with the version in them: an object that was compiled with the header of another version does
  * not link. Name the sizes of arrays by their constants. Version 2: the operation wanted has a sixth number, "enhanced", so that the answers of
  * camlist_start, camlist_step and camlist_steps are one number longer. E9 came within version 2: a stored 24-bit word's top byte was zero before it.
  * So did E8: before it Q = 0 ended the run with code 7 in a stop block too. A record that was kept before E8 goes on by its rule. So did E10, which
- * adds two calls and changes none.
+ * adds two calls and changes none. So did E2, which adds four calls and changes none.
  */
 #ifndef CAMLIST_H
 #define CAMLIST_H
@@ -46,6 +50,10 @@ extern "C" {
 #define camlist_code_name camlist_code_name_v2
 #define camlist_to_binary camlist_to_binary_v2
 #define camlist_to_decimal camlist_to_decimal_v2
+#define camlist_demand_add camlist_demand_add_v2
+#define camlist_demand_row camlist_demand_row_v2
+#define camlist_demand_take camlist_demand_take_v2
+#define camlist_demand_clear camlist_demand_clear_v2
 
 /* Every answer begins with these two. After a refusal the numbers behind them are 0, but for a refused run's record, which has ended. */
 #define CAMLIST_NUMBER 0 /* 0 not refused, else the refusal */
@@ -86,6 +94,17 @@ extern "C" {
 /* The answers of camlist_to_binary and camlist_to_decimal have number and place alone. */
 #define CAMLIST_SCALERS_NUMBERS 2
 
+/* The numbers of the answers of camlist_demand_add, camlist_demand_row and camlist_demand_clear: the queue after the call. */
+#define CAMLIST_DEMAND_WAITING 2  /* how many demands wait, up to 2,048 */
+#define CAMLIST_DEMAND_OVERFLOW 3 /* 1 if one was dropped since the last camlist_demand_clear, else 0 */
+#define CAMLIST_DEMAND_NUMBERS 4
+
+/* The numbers of camlist_demand_take's answer, behind the two above. */
+#define CAMLIST_TAKE_FOUND 4 /* 1 a demand was taken, 0 none waited: then the next two are 0 */
+#define CAMLIST_TAKE_CRATE 5
+#define CAMLIST_TAKE_SGL 6
+#define CAMLIST_TAKE_NUMBERS 7
+
 /* The numbers of a record: the state of a run. A host keeps them between calls, and need not look at them. */
 #define CAMLIST_RECORD_ENDED 0         /* 1 ended, 0 waiting for a reply */
 #define CAMLIST_RECORD_INSTRUCTION 1   /* the instruction that waits, or that ended the run */
@@ -103,7 +122,8 @@ extern "C" {
 #define CAMLIST_RECORD_NUMBERS 13
 
 /* Refusals, in the order in which they are judged: fields front to back, each by 1 to 9, then the others. 1 to 10 have the place of their field.
-   31 and 32 are those of a row of scalers, longwords front to back; 32 has the place of its longword. */
+   25 is that of the calls on a queue of demands. 31 and 32 are those of a row of scalers, longwords front to back; 32 has the place of its
+   longword. */
 #define CAMLIST_NOT_REFUSED 0
 #define CAMLIST_REFUSED_CUT 1           /* a field's head or body runs past the end of the list */
 #define CAMLIST_REFUSED_FIRST 2         /* no field, or a first field that is not format 1 with a try limit */
@@ -123,6 +143,8 @@ extern "C" {
 #define CAMLIST_REFUSED_RECORD 23       /* the record does not fit the list, or one of its numbers is too wide for its part; its marks
                                            fit if even and not above those of a run in which no block is short */
 #define CAMLIST_REFUSED_REPLY 22        /* a reply, or one anywhere in a row, is not well formed; or the row is no multiple of 8 bytes */
+#define CAMLIST_REFUSED_DEMAND 25       /* a queue breaks a limit: its length, its first cell, how many wait, its mark; a demand's crate is not
+                                           1 to 62; or a row of demands has odd length */
 #define CAMLIST_REFUSED_ROW_LENGTH 31   /* a row of scalers is no multiple of 4 bytes */
 #define CAMLIST_REFUSED_SCALER 32       /* a longword has a bit of 29 to 24 set; or, to binary, a digit above 9, to decimal a value above 999,999 */
 
@@ -185,6 +207,25 @@ void camlist_to_binary(uint8_t *row, size_t row_len, uint64_t answer[CAMLIST_SCA
 /* The same from numbers to digits. What either of the two converts, the other converts back. */
 void camlist_to_decimal(uint8_t *row, size_t row_len, uint64_t answer[CAMLIST_SCALERS_NUMBERS]);
 
+/* A crate that wants attention sends a demand: its number, 1 to 62, and an SGL byte, its graded look-at-me signals. A queue of yours keeps up to
+   2,048, the oldest out first. It is CAMLIST_QUEUE_BYTES bytes, all zero to begin with: 2,048 cells of crate and SGL; the number of the oldest's
+   cell, 0 to 2,047; how many wait, 0 to 2,048 (two bytes each, low byte first); and the overflow mark, 0 or 1. Every call asks for these limits,
+   but of a cell any two bytes do. Refused, 25 with place 0, it leaves the queue as it is. */
+#define CAMLIST_QUEUE_BYTES 4101
+
+/* Adds a demand behind the others. If 2,048 wait it is dropped, and the overflow mark set, which only camlist_demand_clear takes off. */
+void camlist_demand_add(uint8_t *queue, size_t queue_len, uint8_t crate, uint8_t sgl, uint64_t answer[CAMLIST_DEMAND_NUMBERS]);
+
+/* Adds the demands of a row, crate and SGL of each, as single calls would, one after the other. Refused for any of them, it adds none. A row of
+   none passes. */
+void camlist_demand_row(uint8_t *queue, size_t queue_len, const uint8_t *row, size_t row_len, uint64_t answer[CAMLIST_DEMAND_NUMBERS]);
+
+/* Takes the oldest demand. The overflow mark stays. */
+void camlist_demand_take(uint8_t *queue, size_t queue_len, uint64_t answer[CAMLIST_TAKE_NUMBERS]);
+
+/* Drops all that wait and takes the overflow mark off. */
+void camlist_demand_clear(uint8_t *queue, size_t queue_len, uint64_t answer[CAMLIST_DEMAND_NUMBERS]);
+
 /* The name of a code as the driver manual has it, filled with blanks; all blanks for a number above 15. */
 #define CAMLIST_NAME_BYTES 16
 void camlist_code_name(uint64_t code, uint8_t name[CAMLIST_NAME_BYTES]);
@@ -233,6 +274,7 @@ static inline const char *camlist_refusal_text(uint64_t number)
     case CAMLIST_REFUSED_REPLY: return "a reply is not well formed";
     case CAMLIST_REFUSED_RECORD: return "the record does not fit the list";
     case CAMLIST_REFUSED_ENDED: return "the run has ended";
+    case CAMLIST_REFUSED_DEMAND: return "no queue of demands, a crate that is not 1 to 62, or half a demand";
     case CAMLIST_REFUSED_ROW_LENGTH: return "the row is not whole longwords";
     case CAMLIST_REFUSED_SCALER: return "a longword has a bit of 29 to 24, a digit above 9 or a value above 999,999";
     default: return "unknown refusal";

@@ -9,6 +9,7 @@ use std::{env, fs};
 
 const RANDOM_CASES: u64 = 2_000;
 const RANDOM_ROWS: u64 = 200;
+const RANDOM_QUEUES: u64 = 200;
 /// Longer inputs are left to the tests.
 const MOST_BYTES: usize = 4_096;
 
@@ -35,6 +36,31 @@ fn main() {
         let input = seed(&[], &row);
         fs::write(folder.join(format!("{number}-scalers")), input).expect("a file");
     }
+    for (number, calls) in demands().enumerate() {
+        let input = seed(&[], &calls);
+        fs::write(folder.join(format!("{number}-demands")), input).expect("a file");
+    }
+}
+
+/// Queues of demands and calls on them; every second queue is empty, and its first call brings
+/// 2,047 demands.
+fn demands() -> impl Iterator<Item = Vec<u8>> {
+    (0..RANDOM_QUEUES).map(|number| {
+        let mut rng = Rng::of_case(2, number);
+        let length = 5 + rng.index(200);
+        let mut input = rng.bytes(length);
+        if number % 2 == 0 {
+            input[..5].copy_from_slice(&[0, 0, 0, 0, 0]);
+            input.splice(5..5, full_row());
+        }
+        input
+    })
+}
+
+/// The call of that row, all of crate 1.
+fn full_row() -> [u8; 5] {
+    let [low, high] = u16::to_le_bytes(4_094);
+    [144, low, high, 0, 1]
 }
 
 /// Rows of scalers.

@@ -4,16 +4,19 @@
 //! bytes, little-endian); how long the buffers are, and whether the row stands as it is or
 //! has one byte for each reply, which keeps most rows well formed; how many replies bring a
 //! run to the record that step and steps are given; which of the record's numbers is changed
-//! and how. The row as it stands is also taken for a row of scalers, either way.
+//! and how. The row as it stands is also taken for a row of scalers, either way, and for calls
+//! on a queue of demands: five bytes for the queue, then one byte and more for each call.
 
 #[path = "../../rust/camlist/tests/common/mod.rs"]
 mod common;
 
 use camlist::ffi;
-use common::{compare_admission, compare_run, compare_scalers, compare_start, compare_step};
-use common::{compare_steps, Given, Record};
+use common::{compare_admission, compare_demands, compare_run, compare_scalers, compare_start};
+use common::{compare_step, compare_steps, Given, Record};
 use reference::cases::by_hand::{answer, kind, ok};
+use reference::cases::demands::{queue_of, Call};
 use reference::cases::scalers::Way;
+use reference::demands::{Demand, MOST, OVERFLOW};
 use std::slice;
 
 /// The bytes before the list.
@@ -21,6 +24,9 @@ const HEAD: usize = 6;
 
 /// The bit of the third byte that says that the row stands as it is.
 const RAW_ROW: u8 = 0x80;
+
+/// More calls on a queue than these aren't made.
+const MOST_CALLS: usize = 64;
 
 /// Buffers of more bytes than these aren't made.
 const MOST_BUFFER: u64 = 1 << 18;
@@ -42,6 +48,7 @@ pub unsafe extern "C" fn LLVMFuzzerTestOneInput(data: *const u8, size: usize) ->
         let length = usize::from(u16::from_le_bytes([low, high]));
         let (list, row) = rest.split_at(length.min(rest.len()));
         compare_conversions(row, usize::from(taken));
+        compare_queue(row);
         let row = if manner & RAW_ROW == 0 {
             let replies = row.iter().enumerate();
             replies.flat_map(|(at, &byte)| reply(byte, at)).collect()
@@ -62,6 +69,55 @@ fn compare_conversions(row: &[u8], shift: usize) {
             assert!(again == row, "not converted back: {what}");
         }
     }
+}
+
+/// A queue and calls on it. Its numbers go a little beyond their limits, and its cells hold any
+/// bytes.
+fn compare_queue(input: &[u8]) {
+    let Some((&[a, b, c, d, mark], mut rest)) = input.split_first_chunk() else {
+        return;
+    };
+    let cells: Vec<u8> = (0..2 * MOST).map(|at| (at / 3) as u8).collect();
+    let first = usize::from(u16::from_le_bytes([a, b])) % (MOST + 2);
+    let waiting = usize::from(u16::from_le_bytes([c, d])) % (MOST + 3);
+    let mut queue = queue_of(&cells, first, waiting, false);
+    queue[OVERFLOW] = mark % 3;
+    for _ in 0..MOST_CALLS {
+        let Some(call) = next_call(&mut rest) else {
+            return;
+        };
+        let what = format_args!("{call:02X?} of {input:02X?}");
+        (_, queue) = compare_demands(&call, &queue, what);
+    }
+}
+
+/// The call at the front of an input: an add of two bytes, a row of as many bytes as the first
+/// says, a row of many demands of one crate with one byte changed, a take or a clear.
+fn next_call(input: &mut &[u8]) -> Option<Call> {
+    let (&kind, rest) = input.split_first()?;
+    let (call, rest) = match kind {
+        0..=95 => {
+            let (&demand, rest) = rest.split_first_chunk()?;
+            (Call::Add(Demand::of(demand)), rest)
+        }
+        96..=143 => {
+            let (row, rest) = rest.split_at_checked(usize::from(kind - 96))?;
+            (Call::Row(row.to_vec()), rest)
+        }
+        144..=175 => {
+            let (&[low, high, at, value], rest) = rest.split_first_chunk()?;
+            let length = usize::from(u16::from_le_bytes([low, high])) % 5_000;
+            let mut row = vec![kind - 143; length];
+            if let Some(byte) = row.get_mut(20 * usize::from(at)) {
+                *byte = value;
+            }
+            (Call::Row(row), rest)
+        }
+        176..=250 => (Call::Take, rest),
+        _ => (Call::Clear, rest),
+    };
+    *input = rest;
+    Some(call)
 }
 
 fn compare(list: &[u8], manner: u8, row: &[u8], taken: usize, change: (u8, u8)) {

@@ -4,7 +4,7 @@ use std::path::{Path, PathBuf};
 use std::{env, fs};
 
 /// The newest of the symbols that this crate calls.
-const SYMBOL: &[u8] = b"camlist_to_decimal_v2";
+const SYMBOL: &[u8] = b"camlist_demand_clear_v2";
 
 fn main() {
     let manifest = env::var_os("CARGO_MANIFEST_DIR").expect("cargo says where the crate is");

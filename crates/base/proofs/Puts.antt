@@ -16,6 +16,12 @@ sets-other l i (v ∷ vs) j h =
     sets-other (set l i v) (suc i) vs j (λ g. omega (arith, h (omega arith)))
     ∙ getD-set-other l i j v 0 (λ e. omega (arith, h (omega arith)))
 
+-- two bytes before the row, or behind it
+pub short-other : (l : List ℕ) (i : ℕ) (vs : List ℕ) (j : ℕ) → (i < j + 2 → i + length vs ≤ j) → shortAt (sets l i vs) j ≡ shortAt l j
+unfolding shortAt byteAt
+short-other l i vs j h =
+    omega (arith, sets-other l i vs j (λ g. h (omega arith)), sets-other l i vs (j + 1) (λ g. omega (arith, h (omega arith))))
+
 -- byte k of the row, at its place j
 pub sets-at : (l : List ℕ) (i : ℕ) (vs : List ℕ) → i + length vs ≤ length l → (j k : ℕ) → i + k ≡ j → k < length vs
     → getD (sets l i vs) j 0 ≡ getD vs k 0

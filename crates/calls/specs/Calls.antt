@@ -7,6 +7,7 @@ use mathlib.Core.Option.{Option, none, some}
 use lib.Dec.{leb, eqb}
 use lib.ListN.{length, take, drop}
 use Rattle.base.specs.Checks.{if_then_else_, allOf}
+use Rattle.base.specs.Refusals.{notRefused, refusal}
 use Rattle.camac.specs.Words.{addressOf, directionOf, isEnhanced}
 use Rattle.camac.specs.declared.words.Command.{Command}
 use Rattle.camac.specs.declared.words.Transfer.{Transfer}
@@ -30,13 +31,6 @@ use Rattle.camac.specs.declared.words.Direction.{Direction}
 use Rattle.camac.specs.declared.words.Direction.the-variants.{Incoming, Outgoing, Neither}
 
 -- Refusals and records ---------------------------------------------------------------------------------------------------
-
-abbrev pub notRefused : Refusal
-notRefused = record { number = 0; place = 0 }
-
--- "a place not named is 0"
-abbrev pub refusal : ℕ → Refusal
-refusal number = record { number = number; place = 0 }
 
 -- "a refused start or whole run gives a record marked ended, all else zero"
 abbrev pub refusedRecord : Record

@@ -7,6 +7,7 @@ use mathlib.Core.List.{List, [], _∷_}
 use mathlib.Core.Option.{Option, none, some}
 use native.Mathlib.Omega.{arith}
 use lib.ListN.{length, take, drop-of-length-le}
+use Rattle.base.specs.Refusals.{notRefused}
 use Rattle.base.proofs.Tests.{on}
 use Rattle.walk.specs.Admission.{Plan, Prepared, unfit, ready, prepare}
 use Rattle.reply.specs.Replies.{replyOf, repliesIn, allFormed}
@@ -14,7 +15,7 @@ use Rattle.reply.specs.Effect.{State}
 use Rattle.reply.specs.declared.replies.Reply.{Reply}
 use Rattle.reply.proofs.Rows.{replies-none, replies-more}
 use Rattle.calls.specs.Fit.{fits}
-use Rattle.calls.specs.Calls.{notRefused, Called, takenCall, takeAt, stepOf, RunThrough, stepsOver, Stepping, takenSteps, stepsOf}
+use Rattle.calls.specs.Calls.{Called, takenCall, takeAt, stepOf, RunThrough, stepsOver, Stepping, takenSteps, stepsOf}
 
 take-all : (l : List ℕ) (n : ℕ) → length l ≤ n → take n l ≡ l
 take-all [] zero h = refl

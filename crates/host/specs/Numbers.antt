@@ -2,24 +2,39 @@
 -- replies are ours beside them). A record is its thirteen numbers in document 01's order. Admission's numbers are `numbersOf` of the crate walk.
 use Prim.Native.Nat.{ℕ}
 use mathlib.Core.Bool.{Bool, not, _&&_}
-use mathlib.Core.List.{List, [], _∷_}
+use mathlib.Core.List.{List, [], _∷_, _++_}
 use mathlib.Core.Option.{Option, none, some}
 use lib.Dec.{leb, eqb}
 use lib.ListN.{length, getD}
 use Rattle.base.specs.Checks.{if_then_else_}
+use Rattle.base.specs.Refusals.{refusal}
 use Rattle.base.specs.declared.Refusal.{Refusal}
 use Rattle.walk.specs.Admission.{Prepared, unfit, ready, prepare}
 use Rattle.reply.specs.Effect.{State, stateOf}
 use Rattle.reply.specs.declared.records.Record.{Record}
-use Rattle.calls.specs.Calls.{refusal, numberOf, recordNumbers, noOperation, Called, Stepping, startOf, stepOf, stepsOf}
+use Rattle.calls.specs.Calls.{numberOf, recordNumbers, noOperation, Called, Stepping, startOf, stepOf, stepsOf}
 use Rattle.calls.specs.declared.operations.Operation.{Operation}
 use Rattle.calls.specs.declared.Ran.{Ran}
+use Rattle.demands.specs.declared.Queued.{Queued}
+use Rattle.demands.specs.declared.Next.{Next}
+use Rattle.demands.specs.declared.Next.the-variants.{Nothing, Oldest}
 
 -- Answers ------------------------------------------------------------------------------------------------------------------
 
 -- decimal scalers: number, place
 abbrev pub refusalNumbers : Refusal → List ℕ
 refusalNumbers r = r .number ∷ r .place ∷ []
+
+-- demands: number, place, how many wait, the overflow mark; taking: then 1 and the demand, or 0 for nothing
+abbrev pub queuedNumbers : Queued → List ℕ
+queuedNumbers r = r .refusal .number ∷ r .refusal .place ∷ r .waiting ∷ numberOf (r .overflow) ∷ []
+
+abbrev pub nextNumbers : Next → List ℕ
+nextNumbers Nothing = 0 ∷ 0 ∷ 0 ∷ []
+nextNumbers (Oldest d) = 1 ∷ d .«crate_number» ∷ d .sgl ∷ []
+
+abbrev pub takenNumbers : Queued → Next → List ℕ
+takenNumbers r next = queuedNumbers r ++ nextNumbers next
 
 -- the whole run: number, place, the replies taken, then the record
 abbrev pub runNumbers : Ran → List ℕ

@@ -4,3 +4,4 @@ pub mod decimal;
 pub mod entries;
 pub mod names;
 pub mod numbers;
+pub mod queue;

@@ -2,6 +2,9 @@
 use base::Refusal;
 use calls::Operation;
 use calls::Ran;
+use demands::Next;
+use demands::Queued;
+use demands::Taken;
 use packing::Marks;
 use qmodes::ScanPosition;
 use reply::Note;
@@ -11,13 +14,44 @@ use walk::Spot;
 ghost use mathlib.Core.Path.{_≡_};
 ghost use Rattle.calls.specs.Calls.{numberOf, recordNumbers};
 ghost use Rattle.walk.specs.Admission.{numbersOf};
-ghost use Rattle.host.specs.Numbers.{refusalNumbers, runNumbers, callNumbers, stepsNumbers, isNarrow};
+ghost use Rattle.host.specs.Numbers.{refusalNumbers, queuedNumbers, takenNumbers, runNumbers, callNumbers, stepsNumbers, isNarrow};
 ghost use Rattle.host.specs.model.Given.{recordOr, numbersAfter};
 
 pub fn refusal_numbers(r: Refusal) -> [u64; 2]
     ensures { λ n. ⌜ n ≡ refusalNumbers r ⌝ }
 {
     [r.number as u64, r.place as u64]
+}
+
+pub fn queued_numbers(r: Queued) -> [u64; 4]
+    ensures { λ n. ⌜ n ≡ queuedNumbers r ⌝ }
+{
+    let refusal = r.refusal;
+    [
+        refusal.number as u64,
+        refusal.place as u64,
+        r.waiting as u64,
+        number_of(r.overflow),
+    ]
+}
+
+pub fn taken_numbers(t: Taken) -> [u64; 7]
+    ensures { λ n. ⌜ n ≡ takenNumbers (t .queued) (t .next) ⌝ }
+{
+    let n = queued_numbers(t.queued);
+    let next = t.next;
+    match next {
+        Next::Nothing => [n[0], n[1], n[2], n[3], 0, 0, 0],
+        Next::Oldest(d) => [
+            n[0],
+            n[1],
+            n[2],
+            n[3],
+            1,
+            d.crate_number as u64,
+            d.sgl as u64,
+        ],
+    }
 }
 
 pub fn admission_numbers(a: Admission) -> [u64; 5]

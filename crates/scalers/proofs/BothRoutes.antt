@@ -11,6 +11,7 @@ use lib.Dec.{eqb}
 use lib.ListN.{length}
 use Rattle.base.specs.Bytes.{byteAt, shortAt, longAt, longBytes, Bytes}
 use Rattle.base.specs.Checks.{if_then_else_}
+use Rattle.base.specs.Refusals.{notRefused, refusal}
 use Rattle.base.proofs.Puts.{long-put}
 use Rattle.scalers.specs.declared.longwords.Way.{Way}
 use Rattle.scalers.specs.declared.rows.Checked.{Checked}
@@ -99,7 +100,7 @@ record Passed (way : Way) (row : List ℕ) : Type 0 where
   whole : length row % 4 ≡ 0
   checked : checkedFrom way 0 (longwordsIn row) ≡ Passes
 
-outcome : (way : Way) (row : List ℕ) → Passed way row → convertOf way row ≡ leaving 0 0 (convertedRow way row)
+outcome : (way : Way) (row : List ℕ) → Passed way row → convertOf way row ≡ leaving notRefused (convertedRow way row)
 outcome way row p = by-check way row (p .whole) (sym (p .checked))
 
 passed : (way : Way) (row : List ℕ) → RowPasses way row → Passed way row
@@ -107,7 +108,7 @@ unfolding convertOf
 passed way row e = go (eqb (length row % 4) 0) refl (checkedFrom way 0 (longwordsIn row)) refl e
   where
     go : (b : Bool) → eqb (length row % 4) 0 ≡ b → (r : Checked) → checkedFrom way 0 (longwordsIn row) ≡ r
-        → (if b then judged way row r else leaving 31 0 row) .refusal .number ≡ 0 → Passed way row
+        → (if b then judged way row r else leaving (refusal 31) row) .refusal .number ≡ 0 → Passed way row
     go true t Passes q e = record { whole = eqb-true _ _ t; checked = q }
     go true t (Bad at) q e = absurd (omega arith)
     go false t r q e = absurd (omega arith)
@@ -151,9 +152,9 @@ both-routes way row bytes e =
       whole = whole-row (map (convertedTo way) ws);
       checked = ap (checkedFrom (back way) 0) again ∙ there .passes;
     } in
-    let returns : convertOf (back way) (convertOf way row .row) ≡ leaving 0 0 row =
+    let returns : convertOf (back way) (convertOf way row .row) ≡ leaving notRefused row =
     ap (convertOf (back way)) converted ∙ outcome (back way) (convertedRow way row) q
-    ∙ ap (leaving 0 0) (ap (λ (xs : List ℕ). rowOf (map (convertedTo (back way)) xs)) again ∙ ap rowOf (there .same) ∙ row-longwords row bytes (p .whole)) in
+    ∙ ap (leaving notRefused) (ap (λ (xs : List ℕ). rowOf (map (convertedTo (back way)) xs)) again ∙ ap rowOf (there .same) ∙ row-longwords row bytes (p .whole)) in
     let each = each-one way 0 row (p .checked) in
     record {
       back-passes = ap (λ (o : Outcome). o .refusal .number) returns;

@@ -9,6 +9,7 @@ use lib.ListN.{length, getD, drop, drop-of-length-le}
 use lib.Seq.{drop-cons}
 use Rattle.base.specs.Bytes.{byteAt, shortAt, longAt, longBytes}
 use Rattle.base.specs.Checks.{if_then_else_}
+use Rattle.base.specs.Refusals.{refusal}
 use Rattle.scalers.specs.declared.longwords.Way.{Way}
 use Rattle.scalers.specs.declared.rows.Checked.{Checked}
 use Rattle.scalers.specs.declared.rows.Checked.the-variants.{Passes, Bad}
@@ -59,7 +60,7 @@ passes-both way at w ws e = go (isBad way w) refl e
 
 -- A call -----------------------------------------------------------------------------------------------------------------
 
-pub no-longwords : (way : Way) (row : List ℕ) → ¬ (length row % 4 ≡ 0) → convertOf way row ≡ leaving 31 0 row
+pub no-longwords : (way : Way) (row : List ℕ) → ¬ (length row % 4 ≡ 0) → convertOf way row ≡ leaving (refusal 31) row
 unfolding convertOf
 no-longwords way row h = rw (ne-eqb (length row % 4) 0 h)
 

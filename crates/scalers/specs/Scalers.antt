@@ -6,6 +6,7 @@ use lib.Dec.{ltb, eqb}
 use lib.ListN.{length}
 use Rattle.base.specs.Bytes.{longAt, longBytes}
 use Rattle.base.specs.Checks.{if_then_else_, bits}
+use Rattle.base.specs.Refusals.{notRefused, refusal}
 use Rattle.base.specs.declared.Refusal.{Refusal}
 use Rattle.scalers.specs.declared.longwords.Way.{Way}
 use Rattle.scalers.specs.declared.longwords.Way.the-variants.{ToBinary, ToDecimal}
@@ -88,15 +89,14 @@ pub record Outcome : Type 0 where
   pub refusal : Refusal
   pub row : List ℕ
 
--- a refusal's number and place, 0 and 0 for none, and a row
-abbrev pub leaving : ℕ → ℕ → List ℕ → Outcome
-leaving n place row = record { refusal = record { number = n; place = place }; row = row }
+abbrev pub leaving : Refusal → List ℕ → Outcome
+leaving r row = record { refusal = r; row = row }
 
 -- "in each case the row is unconverted"
 abbrev pub judged : Way → List ℕ → Checked → Outcome
-judged way row Passes = leaving 0 0 (convertedRow way row)
-judged way row (Bad at) = leaving 32 at row
+judged way row Passes = leaving notRefused (convertedRow way row)
+judged way row (Bad at) = leaving (record { number = 32; place = at }) row
 
 -- "31 for a row that isn't whole longwords; then 32"
 unfoldable pub convertOf : Way → List ℕ → Outcome
-convertOf way row = if eqb (length row % 4) 0 then judged way row (checkedFrom way 0 (longwordsIn row)) else leaving 31 0 row
+convertOf way row = if eqb (length row % 4) 0 then judged way row (checkedFrom way 0 (longwordsIn row)) else leaving (refusal 31) row

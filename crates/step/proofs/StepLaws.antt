@@ -9,6 +9,7 @@ use mathlib.Core.Option.{Option, none, some}
 use lib.ListN.{length}
 use Rattle.camac.specs.declared.words.Command.{Command}
 use Rattle.base.specs.Bytes.{Bytes}
+use Rattle.base.specs.Refusals.{notRefused, refusal}
 use Rattle.base.specs.declared.Refusal.{Refusal}
 use Rattle.listfile.specs.declared.check.Sizes.{Sizes}
 use Rattle.walk.specs.Walk.{firstSpot, spotAfter}
@@ -22,7 +23,7 @@ use Rattle.walk.specs.declared.worst.Counts.{Counts}
 use Rattle.reply.specs.Replies.{replyOf}
 use Rattle.reply.specs.Effect.{State, runOn, stateOf, zeroRecord}
 use Rattle.calls.specs.Fit.{fits}
-use Rattle.calls.specs.Calls.{notRefused, refusal, Called, refusedCall, takenCall, begun, startPrepared, startOf, takeAt, stepReply, stepPrepared, stepOf, yieldOf, Yields}
+use Rattle.calls.specs.Calls.{Called, refusedCall, takenCall, begun, startPrepared, startOf, takeAt, stepReply, stepPrepared, stepOf, yieldOf, Yields}
 use Rattle.take.specs.model.Here.{Ready, hereRun, hereBuffer, resumed}
 use Rattle.reply.specs.declared.records.Record.{Record}
 use Rattle.reply.specs.declared.replies.Reply.{Reply}

@@ -8,6 +8,7 @@ use mathlib.Core.List.{List, [], _∷_}
 use native.Mathlib.Omega.{arith}
 use lib.ListN.{length}
 use Rattle.base.proofs.Tests.{on}
+use Rattle.base.specs.Refusals.{notRefused, refusal}
 use Rattle.base.specs.declared.Refusal.{Refusal}
 use Rattle.listfile.specs.declared.check.Sizes.{Sizes}
 use Rattle.walk.specs.Admission.{Plan, Prepared, unfit, ready, prepare}
@@ -19,7 +20,7 @@ use Rattle.reply.specs.Replies.{repliesIn, allFormed}
 use Rattle.reply.specs.Effect.{State, stateOf}
 use Rattle.reply.specs.declared.records.Record.{Record}
 use Rattle.calls.specs.Fit.{fits}
-use Rattle.calls.specs.Calls.{notRefused, refusal, takeAt, RunThrough, Stepping, refusedSteps, takenSteps, stepsOver, stepsPrepared, stepsOf, steppedOf, Steps}
+use Rattle.calls.specs.Calls.{takeAt, RunThrough, Stepping, refusedSteps, takenSteps, stepsOver, stepsPrepared, stepsOf, steppedOf, Steps}
 use Rattle.calls.specs.declared.Stepped.{Stepped}
 use Rattle.calls.specs.declared.operations.Operation.{Operation}
 use Rattle.worst_count.proofs.Admitted.{SoundPlan}

@@ -10,12 +10,13 @@ use mathlib.Core.Option.{Option, some}
 use native.Mathlib.Omega.{arith}
 use lib.ListN.{length, take, drop}
 use Rattle.base.specs.Checks.{if_then_else_}
+use Rattle.base.specs.Refusals.{notRefused, refusal}
 use Rattle.base.specs.declared.Refusal.{Refusal}
 use Rattle.walk.specs.Admission.{Plan, unfit, ready, prepare}
 use Rattle.reply.specs.Replies.{replyOf, repliesIn, allFormed}
 use Rattle.reply.specs.Effect.{State}
 use Rattle.calls.specs.Fit.{fits}
-use Rattle.calls.specs.Calls.{notRefused, Called, refusal, begun, takeAt, stepReply, stepOf, stepsOver, refusedRun, runOf}
+use Rattle.calls.specs.Calls.{Called, begun, takeAt, stepReply, stepOf, stepsOver, refusedRun, runOf}
 use Rattle.reply.specs.declared.replies.Reply.{Reply}
 use Rattle.worst_count.proofs.Admitted.{SoundPlan}
 use Rattle.worst_count.proofs.Sequences.{start-state}

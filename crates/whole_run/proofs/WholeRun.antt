@@ -5,6 +5,7 @@ use mathlib.Core.Bool.{true, false}
 use mathlib.Core.List.{List, []}
 use native.Mathlib.Omega.{arith}
 use lib.ListN.{length}
+use Rattle.base.specs.Refusals.{notRefused, refusal}
 use Rattle.base.specs.declared.Refusal.{Refusal}
 use Rattle.listfile.specs.declared.check.Sizes.{Sizes}
 use Rattle.walk.specs.Admission.{prepare}
@@ -14,7 +15,7 @@ use Rattle.walk.specs.declared.Preparation.{Preparation}
 use Rattle.walk.specs.declared.Preparation.the-variants.{Refused}
 use Rattle.reply.specs.Replies.{repliesIn, allFormed}
 use Rattle.reply.specs.Effect.{State, runOn, stateOf, zeroRecord}
-use Rattle.calls.specs.Calls.{notRefused, refusal, refusedRecord, begun, RunThrough, runOf, Runs}
+use Rattle.calls.specs.Calls.{refusedRecord, begun, RunThrough, runOf, Runs}
 use Rattle.reply.specs.declared.records.Record.{Record}
 use Rattle.calls.specs.declared.Ran.{Ran}
 use Rattle.worst_count.proofs.Admitted.{SoundPlan}

@@ -13,10 +13,11 @@ use walk::Planned;
 use walk::Preparation;
 ghost use mathlib.Core.Path.{_≡_};
 ghost use lib.ListN.{length};
+ghost use Rattle.base.specs.Refusals.{refusal};
 ghost use Rattle.walk.specs.Admission.{ready};
 ghost use Rattle.walk.specs.model.Sums.{planBy};
 ghost use Rattle.reply.specs.Effect.{stateOf};
-ghost use Rattle.calls.specs.Calls.{noOperation, refusal, stepsPrepared, stepsOf, Steps};
+ghost use Rattle.calls.specs.Calls.{noOperation, stepsPrepared, stepsOf, Steps};
 ghost use Rattle.step.specs.model.Onward.{PreparedFor};
 
 // A refused call: the record as it is, no reply taken, no operation.

@@ -9,13 +9,14 @@ use mathlib.Core.Option.{Option, none, some}
 use native.Mathlib.Omega.{arith}
 use lib.ListN.{length}
 use Rattle.base.specs.Checks.{if_then_else_}
+use Rattle.base.specs.Refusals.{refusal}
 use Rattle.walk.specs.Walk.{marksOver}
 use Rattle.walk.specs.Worst.{worstOver}
 use Rattle.walk.specs.Admission.{Plan, Prepared, unfit, ready, prepare}
 use Rattle.reply.specs.Replies.{replyOf, isSome, isFormed}
 use Rattle.reply.specs.Effect.{State, takeReply}
 use Rattle.calls.specs.Fit.{fits}
-use Rattle.calls.specs.Calls.{Called, refusal, refusedCall, takenCall, begun, startOf, takeFrom, takeAt, stepReply, stepPrepared, stepOf}
+use Rattle.calls.specs.Calls.{Called, refusedCall, takenCall, begun, startOf, takeFrom, takeAt, stepReply, stepPrepared, stepOf}
 use Rattle.reply.specs.declared.replies.Reply.{Reply}
 use Rattle.worst_count.specs.WorstCount.{Lent, own, other, finds, leaves, Calls, no-call, taken, refused, afterReplies, startState, NoneRefused}
 use Rattle.qmodes.proofs.MostFalls.{Near}

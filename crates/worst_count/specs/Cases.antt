@@ -4,6 +4,7 @@ use mathlib.Core.Path.{_≡_}
 use mathlib.Core.Bool.{true, false}
 use mathlib.Core.List.{List, [], _∷_, _++_}
 use lib.ListN.{replicate}
+use Rattle.base.specs.Refusals.{notRefused}
 use Rattle.qmodes.specs.Scan.{positions, stations}
 use Rattle.camac.specs.Words.{wordsOf, directionOf, positionOf, decodeOf}
 use Rattle.qmodes.specs.declared.modes.QMode.the-variants.{Stop, Ignore, Scan}
@@ -15,7 +16,7 @@ use Rattle.camac.specs.declared.words.Decoded.the-variants.{Carried}
 use Rattle.packing.specs.Packing.{bytesOf}
 use Rattle.walk.specs.Admission.{admitOf, numbersOf}
 use Rattle.reply.specs.Status.{codeIn}
-use Rattle.calls.specs.Calls.{notRefused, startOf, RunThrough, runOf}
+use Rattle.calls.specs.Calls.{startOf, RunThrough, runOf}
 
 -- Fields -----------------------------------------------------------------------------------------------------------------
 

@@ -16,16 +16,18 @@ use crate::verdict::{self, Report, Verdict};
 /// A theorem: its crate, the file of the crate's proofs that has it, and its name.
 pub struct Theorem(&'static str, &'static str, &'static str);
 
-/// Worked examples, each an equation whose sides are computed.
-const EXAMPLES: Theorem = Theorem("scalers", "Examples", "examples");
+/// The name of worked examples, each an equation whose sides are computed.
+const EXAMPLES: &str = "examples";
 
 /// The worst count; where the words behind a short block lie; both routes of decimal
-/// scalers return the row; their worked examples.
-pub const THEOREMS: [Theorem; 4] = [
+/// scalers return the row; what a queue of demands keeps; worked examples of these two.
+pub const THEOREMS: [Theorem; 6] = [
     Theorem("worst_count", "Bound", "worst-count"),
     Theorem("worst_count", "ShortBlocks", "short-blocks"),
     Theorem("scalers", "BothRoutes", "both-routes"),
-    EXAMPLES,
+    Theorem("scalers", "Examples", EXAMPLES),
+    Theorem("demands", "Kept", "kept"),
+    Theorem("demands", "Examples", EXAMPLES),
 ];
 
 /// The crates of the theorems.
@@ -186,7 +188,7 @@ fn is(report: &Report, theorem: &Theorem) -> bool {
 /// is none, the first error must be a fact, and a theorem must fall with it.
 fn judge(reports: &[Report]) -> Verdict {
     let causes = verdict::causes(reports);
-    let example = causes.iter().find(|r| is(r, &EXAMPLES));
+    let example = causes.iter().find(|r| r.law == EXAMPLES);
     if let Some(&example) = example {
         return verdict::judge(std::slice::from_ref(example));
     }

@@ -3,8 +3,9 @@
 //! A wrong engine is an edit that the prover must refuse, and for a fact: not because a
 //! proof file no longer fits the text. `crates/NAME/must-fail` has the edits of a crate's
 //! code and of its own definitions. `acceptance/definitions` has those of the definitions
-//! that the theorems of the crates `worst_count` and `scalers` are about; they are tried where
-//! there is no code, so that only these, and the laws that they cite, can refuse them.
+//! that the theorems of the crates `worst_count`, `scalers` and `demands` are about; they are
+//! tried where there is no code, so that only these, and the laws that they cite, can refuse
+//! them.
 
 #![forbid(unsafe_code)]
 

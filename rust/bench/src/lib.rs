@@ -1,7 +1,8 @@
 //! What the benchmark runs: lists of every kind, with rows of answers that are taken whole;
-//! rows of scalers.
+//! rows of scalers; queues of demands.
 
-use camlist::ffi;
+use camlist::{ffi, Demands};
+use reference::cases::demands;
 use reference::cases::lists::{Draft, DraftField, BITS_16, BLOCK, ENHANCED, INLINE};
 use reference::cases::rng::Rng;
 use reference::cases::rows::{self, Manner};
@@ -296,6 +297,23 @@ pub fn scalers(way: Way) -> Vec<u8> {
     };
     let longwords: Vec<u32> = (0..SCALERS).map(scaler).collect();
     scalers::bytes(&longwords)
+}
+
+/// The demands of a row.
+pub const DEMANDS: usize = 1_000;
+
+/// A row of demands that is accepted.
+pub fn demands() -> Vec<u8> {
+    demands::row(&mut Rng::new(7), DEMANDS)
+}
+
+/// A queue in which none waits, or 2,048 do.
+pub fn queue(full: bool) -> Vec<u8> {
+    let mut queue = demands::empty();
+    if full {
+        ffi::demand_row(&mut queue, &[1, 1].repeat(Demands::MOST));
+    }
+    queue
 }
 
 /// The numbers of instructions of the lists that steps are measured on.

@@ -1,9 +1,10 @@
 //! Times the proved engine beside the separate build's plain loop: same process, same
 //! inputs, in turns. `cargo run --release -p bench`.
 
-use bench::{admissions, scalers, workloads, Workload, SCALERS};
+use bench::{admissions, demands, queue, scalers, workloads, Workload, DEMANDS, SCALERS};
 use camlist::ffi;
 use reference::cases::scalers::Way;
+use reference::demands::Demand;
 use reference::plain;
 use std::hint::black_box;
 use std::time::Instant;
@@ -66,10 +67,54 @@ fn compare_scalers() -> Times {
     times
 }
 
+/// A row of demands into an empty queue, which is cleared again.
+fn compare_demand_rows() -> Times {
+    let row = demands();
+    let (mut proved, mut plain) = (queue(false), queue(false));
+    let times = compare(
+        || {
+            [
+                ffi::demand_row(&mut proved, &row),
+                ffi::demand_clear(&mut proved),
+            ]
+        },
+        || {
+            plain::demands::add_row(&mut plain, &row)?;
+            plain::demands::clear(&mut plain)
+        },
+    );
+    assert!(proved == plain, "the queues differ");
+    times
+}
+
+/// As many demands, each added and taken again.
+fn compare_single_demands() -> Times {
+    let row = demands();
+    let (mut proved, mut plain) = (queue(false), queue(false));
+    let (demands, _) = row.as_chunks();
+    let times = compare(
+        || {
+            for &[crate_number, sgl] in demands {
+                black_box(ffi::demand_add(&mut proved, crate_number, sgl));
+                black_box(ffi::demand_take(&mut proved));
+            }
+        },
+        || {
+            for &demand in demands {
+                let _ = black_box(plain::demands::add(&mut plain, Demand::of(demand)));
+                let _ = black_box(plain::demands::take(&mut plain));
+            }
+        },
+    );
+    assert!(proved == plain, "the queues differ");
+    times
+}
+
 fn main() {
     print_runs();
     print_admissions();
     print_scalers();
+    print_demands();
 }
 
 fn print_runs() {
@@ -119,11 +164,22 @@ fn print_scalers() {
         "{:<22} {:>8} {:>8} {:>7}",
         "longwords", "proved", "plain", "ratio"
     );
-    let times = compare_scalers();
-    let each = |seconds: f64| seconds * 1e9 / SCALERS as f64;
-    let (proved, plain) = (each(times.proved), each(times.plain));
+    print_each(&SCALERS.to_string(), &compare_scalers(), SCALERS);
+}
+
+fn print_demands() {
+    println!("\nDemands. Nanoseconds a demand.");
     println!(
-        "{SCALERS:<22} {proved:>8.2} {plain:>8.2} {:>7.2}",
-        times.ratio
+        "{:<22} {:>8} {:>8} {:>7}",
+        "calls", "proved", "plain", "ratio"
     );
+    print_each("row, clear", &compare_demand_rows(), DEMANDS);
+    print_each("add, take of each", &compare_single_demands(), DEMANDS);
+}
+
+/// A line with the nanoseconds of one of so many.
+fn print_each(name: &str, times: &Times, count: usize) {
+    let each = |seconds: f64| seconds * 1e9 / count as f64;
+    let (proved, plain) = (each(times.proved), each(times.plain));
+    println!("{name:<22} {proved:>8.2} {plain:>8.2} {:>7.2}", times.ratio);
 }

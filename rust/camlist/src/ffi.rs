@@ -22,6 +22,15 @@ pub const STEPS_NUMBERS: usize = 9;
 /// Numbers of the answer of a conversion of scalers: number, place.
 pub const SCALERS_NUMBERS: usize = 2;
 
+/// Bytes of a queue of demands.
+pub const QUEUE_BYTES: usize = 4_101;
+
+/// Numbers of the answer of a call on a queue of demands: number, place, waiting, overflow.
+pub const DEMAND_NUMBERS: usize = 4;
+
+/// Numbers of the answer of the call that takes one: those, found, crate, SGL.
+pub const TAKE_NUMBERS: usize = 7;
+
 /// Bytes of a code's name, blanks behind it included.
 pub const NAME_BYTES: usize = 16;
 
@@ -97,6 +106,34 @@ pub mod raw {
             row: *mut u8,
             row_len: usize,
             answer: *mut [u64; SCALERS_NUMBERS],
+        );
+
+        pub fn camlist_demand_add_v2(
+            queue: *mut u8,
+            queue_len: usize,
+            crate_number: u8,
+            sgl: u8,
+            answer: *mut [u64; DEMAND_NUMBERS],
+        );
+
+        pub fn camlist_demand_row_v2(
+            queue: *mut u8,
+            queue_len: usize,
+            row: *const u8,
+            row_len: usize,
+            answer: *mut [u64; DEMAND_NUMBERS],
+        );
+
+        pub fn camlist_demand_take_v2(
+            queue: *mut u8,
+            queue_len: usize,
+            answer: *mut [u64; TAKE_NUMBERS],
+        );
+
+        pub fn camlist_demand_clear_v2(
+            queue: *mut u8,
+            queue_len: usize,
+            answer: *mut [u64; DEMAND_NUMBERS],
         );
 
         pub fn camlist_code_name_v2(code: u64, name: *mut [u8; NAME_BYTES]);
@@ -236,6 +273,48 @@ pub fn to_decimal(row: &mut [u8]) -> [u64; SCALERS_NUMBERS] {
     let mut answer = [0; SCALERS_NUMBERS];
     // SAFETY: as in `to_binary`.
     unsafe { raw::camlist_to_decimal_v2(row.as_mut_ptr(), row.len(), &mut answer) };
+    answer
+}
+
+// The calls on a queue are short: each is inlined, so that it costs no call more.
+
+/// Adds a demand to a queue.
+#[inline]
+pub fn demand_add(queue: &mut [u8], crate_number: u8, sgl: u8) -> [u64; DEMAND_NUMBERS] {
+    let (bytes, length) = (queue.as_mut_ptr(), queue.len());
+    let mut answer = [0; DEMAND_NUMBERS];
+    // SAFETY: the queue is valid for the call and lent to us alone, and the array is ours.
+    unsafe { raw::camlist_demand_add_v2(bytes, length, crate_number, sgl, &mut answer) };
+    answer
+}
+
+/// Adds a row of demands to a queue.
+#[inline]
+pub fn demand_row(queue: &mut [u8], row: &[u8]) -> [u64; DEMAND_NUMBERS] {
+    let (bytes, length) = (queue.as_mut_ptr(), queue.len());
+    let mut answer = [0; DEMAND_NUMBERS];
+    // SAFETY: as in `demand_add`; the row is valid for the call and overlaps neither.
+    unsafe {
+        raw::camlist_demand_row_v2(bytes, length, row.as_ptr(), row.len(), &mut answer);
+    }
+    answer
+}
+
+/// Takes the oldest demand out of a queue.
+#[inline]
+pub fn demand_take(queue: &mut [u8]) -> [u64; TAKE_NUMBERS] {
+    let mut answer = [0; TAKE_NUMBERS];
+    // SAFETY: as in `demand_add`.
+    unsafe { raw::camlist_demand_take_v2(queue.as_mut_ptr(), queue.len(), &mut answer) };
+    answer
+}
+
+/// Empties a queue and takes its overflow mark off.
+#[inline]
+pub fn demand_clear(queue: &mut [u8]) -> [u64; DEMAND_NUMBERS] {
+    let mut answer = [0; DEMAND_NUMBERS];
+    // SAFETY: as in `demand_add`.
+    unsafe { raw::camlist_demand_clear_v2(queue.as_mut_ptr(), queue.len(), &mut answer) };
     answer
 }
 

@@ -4,7 +4,8 @@
 //! most, and a [`Run`] asks for one CAMAC operation after another and takes the replies.
 //! [`run()`] takes a row of replies that were collected before. A call that is refused
 //! changes nothing and says why ([`Refusal`]). A [`Word`] takes a stored longword apart, and
-//! [`scalers`] converts rows of them between decimal and binary.
+//! [`scalers`] converts rows of them between decimal and binary. [`Demands`] keeps the demands
+//! that crates send while a list runs.
 //!
 //! ```
 //! use camlist::{admit, Camac, List, Reply, Run};
@@ -21,6 +22,7 @@
 //! # Ok::<(), camlist::Refusal>(())
 //! ```
 
+mod demands;
 pub mod ffi;
 mod list;
 mod record;
@@ -31,6 +33,7 @@ pub mod scalers;
 mod status;
 mod word;
 
+pub use demands::{Demand, Demands, Queued, Taken};
 pub use list::{Camac, List};
 pub use record::{Buffer, Note, Record};
 pub use refusal::{Reason, Refusal};

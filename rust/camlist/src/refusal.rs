@@ -90,6 +90,9 @@ pub enum Reason {
     Record = 23,
     /// The record's first number is not 0: its run has ended.
     Ended = 24,
+    /// A queue of demands breaks a limit: its length, its first cell, how many wait, its mark;
+    /// a demand's crate is not 1 to 62; or a row of demands has odd length.
+    Demand = 25,
     /// A row of scalers is no multiple of 4 bytes.
     RowLength = 31,
     /// A longword has a bit of 29 to 24 set; or, to binary, a digit above 9, to decimal a value
@@ -98,7 +101,7 @@ pub enum Reason {
 }
 
 impl Reason {
-    pub const ALL: [Reason; 18] = [
+    pub const ALL: [Reason; 19] = [
         Reason::Cut,
         Reason::First,
         Reason::Tag,
@@ -115,6 +118,7 @@ impl Reason {
         Reason::Reply,
         Reason::Record,
         Reason::Ended,
+        Reason::Demand,
         Reason::RowLength,
         Reason::Scaler,
     ];
@@ -146,6 +150,7 @@ impl fmt::Display for Reason {
             Reason::Reply => "a reply is not well formed",
             Reason::Record => "the record does not fit the list",
             Reason::Ended => "the run has ended",
+            Reason::Demand => "no queue of demands, a crate that is not 1 to 62, or half a demand",
             Reason::RowLength => "the row is not whole longwords",
             Reason::Scaler => {
                 "a longword has a bit of 29 to 24, a digit above 9 or a value above 999,999"

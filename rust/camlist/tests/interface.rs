@@ -1,9 +1,10 @@
 //! What the header promises a host in C: buffers, sizes of answers and records, constants,
 //! texts and names, and the example program. The types of this crate repeat its constants.
 
-use camlist::ffi::{self, raw, ADMIT_NUMBERS, CALL_NUMBERS, RUN_NUMBERS};
-use camlist::ffi::{NAME_BYTES, RECORD_NUMBERS, SCALERS_NUMBERS, STEPS_NUMBERS};
-use camlist::{Camac, Code, Reason, Record, Reply, Status, Word};
+use camlist::ffi::TAKE_NUMBERS;
+use camlist::ffi::{self, raw, ADMIT_NUMBERS, CALL_NUMBERS, DEMAND_NUMBERS, RUN_NUMBERS};
+use camlist::ffi::{NAME_BYTES, QUEUE_BYTES, RECORD_NUMBERS, SCALERS_NUMBERS, STEPS_NUMBERS};
+use camlist::{Camac, Code, Demands, Reason, Record, Reply, Status, Word};
 use reference::cases::by_hand::{double, list, ok, one, M15, M17};
 use reference::host::{admission_numbers, run_numbers, start_numbers, step_numbers, steps_numbers};
 use reference::names::CODE_NAMES;
@@ -111,6 +112,31 @@ fn null_rows() {
     }
 }
 
+/// The same of a queue of demands, which is none, and of a row of demands.
+#[test]
+fn null_queues() {
+    let (mut answer, mut taken) = ([7; DEMAND_NUMBERS], [7; TAKE_NUMBERS]);
+    let refused = [25, 0, 0, 0];
+    let (none, row) = (null_mut(), [1, 2]);
+    // SAFETY: every length is 0 but that of the row, which is valid for the call; the arrays
+    // are ours.
+    unsafe {
+        raw::camlist_demand_add_v2(none, 0, 1, 2, &mut answer);
+        assert_eq!(answer, refused);
+        raw::camlist_demand_row_v2(none, 0, row.as_ptr(), 2, &mut answer);
+        assert_eq!(answer, refused);
+        raw::camlist_demand_take_v2(none, 0, &mut taken);
+        assert_eq!(taken, [25, 0, 0, 0, 0, 0, 0]);
+        raw::camlist_demand_clear_v2(none, 0, &mut answer);
+        assert_eq!(answer, refused);
+    }
+    let mut queue = [0; QUEUE_BYTES];
+    let bytes = queue.as_mut_ptr();
+    // SAFETY: the queue and the array are valid for the call, and ours.
+    unsafe { raw::camlist_demand_row_v2(bytes, QUEUE_BYTES, null(), 0, &mut answer) };
+    assert_eq!(answer, [0; 4]);
+}
+
 /// The numbers written are those of the named sizes and no more.
 #[test]
 fn sizes_of_the_answers() {
@@ -181,6 +207,36 @@ fn sizes_of_the_answers_on_rows() {
     }
 }
 
+/// The same of a queue of demands: added, by a row that is dropped in part, taken, cleared, and
+/// none there.
+#[test]
+fn sizes_of_the_answers_on_queues() {
+    let mut queue = [[0xEE; QUEUE_BYTES], [0; QUEUE_BYTES], [0xEE; QUEUE_BYTES]];
+    let row = [3, 9].repeat(2_048);
+    let mut added = [[7; DEMAND_NUMBERS]; 3];
+    let mut dropped = [[7; DEMAND_NUMBERS]; 3];
+    let mut taken = [[7; TAKE_NUMBERS]; 3];
+    let mut cleared = [[7; DEMAND_NUMBERS]; 3];
+    let mut none = [[7; TAKE_NUMBERS]; 3];
+    let (bytes, length) = (queue[1].as_mut_ptr(), QUEUE_BYTES);
+    // SAFETY: queue, row and arrays are valid for the calls, and ours.
+    unsafe {
+        raw::camlist_demand_add_v2(bytes, length, 62, 255, &mut added[1]);
+        raw::camlist_demand_row_v2(bytes, length, row.as_ptr(), row.len(), &mut dropped[1]);
+        raw::camlist_demand_take_v2(bytes, length, &mut taken[1]);
+        raw::camlist_demand_clear_v2(bytes, length, &mut cleared[1]);
+        raw::camlist_demand_take_v2(bytes, length, &mut none[1]);
+    }
+    assert_eq!(added, [[7; 4], [0, 0, 1, 0], [7; 4]]);
+    assert_eq!(dropped, [[7; 4], [0, 0, 2_048, 1], [7; 4]]);
+    assert_eq!(taken, [[7; 7], [0, 0, 2_047, 1, 1, 62, 255], [7; 7]]);
+    assert_eq!(cleared, [[7; 4], [0; 4], [7; 4]]);
+    assert_eq!(none, [[7; 7], [0; 7], [7; 7]]);
+    assert!(queue[0] == [0xEE; QUEUE_BYTES] && queue[2] == queue[0]);
+    let kept = [&[62, 255][..], &row[..4_094], &[1, 0, 0, 0, 0]].concat();
+    assert!(queue[1][..] == kept);
+}
+
 /// "slices that are only read may overlap each other": the outgoing words are the list's own
 /// bytes and the replies behind it.
 #[test]
@@ -242,7 +298,9 @@ fn assert_constants(prefix: &str, expected: &[(&str, u64)]) {
 fn sizes_of_the_header() {
     let sizes: BTreeMap<_, _> = constants("")
         .into_iter()
-        .filter(|(name, _)| name.ends_with("_NUMBERS") || name == "NAME_BYTES")
+        .filter(|(name, _)| {
+            name.ends_with("_NUMBERS") || name == "NAME_BYTES" || name == "QUEUE_BYTES"
+        })
         .collect();
     let expected = [
         ("ADMIT_NUMBERS", ADMIT_NUMBERS),
@@ -251,7 +309,10 @@ fn sizes_of_the_header() {
         ("RUN_NUMBERS", RUN_NUMBERS),
         ("SCALERS_NUMBERS", SCALERS_NUMBERS),
         ("RECORD_NUMBERS", RECORD_NUMBERS),
+        ("DEMAND_NUMBERS", DEMAND_NUMBERS),
+        ("TAKE_NUMBERS", TAKE_NUMBERS),
         ("NAME_BYTES", NAME_BYTES),
+        ("QUEUE_BYTES", QUEUE_BYTES),
     ];
     let expected = expected.map(|(name, size)| (name.to_string(), size as u64));
     assert_eq!(sizes, BTreeMap::from(expected));
@@ -271,6 +332,10 @@ fn symbols_of_the_header() {
         "code_name",
         "to_binary",
         "to_decimal",
+        "demand_add",
+        "demand_row",
+        "demand_take",
+        "demand_clear",
     ];
     for name in names {
         let define = format!("#define camlist_{name} camlist_{name}_v{version}\n");
@@ -305,6 +370,28 @@ fn operation_of_the_header() {
     }
     assert_eq!(constants("CALL_").len(), 7);
     assert_eq!(constants("STEPS_").len(), 8);
+}
+
+/// The numbers of what a queue answers stand where the header says, and all differ: the mark is
+/// set and 2,047 wait behind the one taken.
+#[test]
+fn demands_of_the_header() {
+    let mut queue = [0; QUEUE_BYTES];
+    ffi::demand_row(&mut queue, &[62, 9].repeat(Demands::MOST));
+    let added = ffi::demand_add(&mut queue, 1, 2);
+    let taken = ffi::demand_take(&mut queue);
+    let queued = constants("DEMAND_");
+    let answers = [(&added[..], 2_048), (&taken[..], 2_047)];
+    for (answer, waiting) in answers {
+        assert_eq!(answer[queued["WAITING"] as usize], waiting);
+        assert_eq!(answer[queued["OVERFLOW"] as usize], 1);
+    }
+    assert_eq!(queued.len(), 3);
+    let places = constants("TAKE_");
+    for (name, number) in [("FOUND", 1), ("CRATE", 62), ("SGL", 9)] {
+        assert_eq!(taken[places[name] as usize], number, "{name}");
+    }
+    assert_eq!(places.len(), 4);
 }
 
 #[test]

@@ -1,6 +1,9 @@
 //! The cases of documents 01 and 02 and the manual's examples, through the C interface.
 
+mod common;
+
 use camlist::ffi::{admit, run, start, step, to_binary, to_decimal};
+use common::PROVED;
 use reference::cases::paper::{self, Engine};
 
 const ENGINE: Engine = Engine {
@@ -10,6 +13,7 @@ const ENGINE: Engine = Engine {
     step,
     to_binary,
     to_decimal,
+    demands: PROVED,
 };
 
 #[test]
@@ -36,6 +40,13 @@ fn steps_of_document_02() {
 #[test]
 fn rows_of_document_02() {
     for known in paper::rows() {
+        known.check(&ENGINE);
+    }
+}
+
+#[test]
+fn demands_of_document_02() {
+    for known in paper::demands() {
         known.check(&ENGINE);
     }
 }

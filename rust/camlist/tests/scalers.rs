@@ -10,7 +10,7 @@ mod program;
 mod seed;
 
 use camlist::{ffi, scalers, Reason, Refusal};
-use common::{compare_scalers, convert};
+use common::{compare_scalers, convert, hex};
 use fed::printed;
 use program::program;
 use reference::cases::coverage::Coverage;
@@ -309,13 +309,6 @@ fn fixed_seed() {
 #[test]
 fn fresh_seed() {
     random_rows(seed::fresh(CASES, "rows of scalers"));
-}
-
-fn hex(bytes: &[u8]) -> String {
-    match bytes {
-        [] => String::from("-"),
-        _ => bytes.iter().map(|byte| format!("{byte:02X}")).collect(),
-    }
 }
 
 /// The lines that the C program takes and prints for a row.

@@ -5,6 +5,7 @@
 //! too wide for its part (N, A and the note's buffer have a byte, the status has 32 bits)
 //! belongs to a record that doesn't fit. A record refused keeps its numbers.
 
+use crate::demands::{self, Demand, Queued};
 use crate::run::RunAnswer;
 use crate::{admit, run_row, scalers, start, step, steps, Counts, Operation, Record, Refusal};
 
@@ -85,6 +86,41 @@ pub fn to_binary_numbers(row: &mut [u8]) -> [u64; 2] {
 /// Converts a row of scalers from binary back; number, place.
 pub fn to_decimal_numbers(row: &mut [u8]) -> [u64; 2] {
     refusal_numbers(scalers::to_decimal(row).err())
+}
+
+/// Adds a demand to a queue; number, place, waiting, overflow.
+pub fn demand_add_numbers(queue: &mut [u8], crate_number: u8, sgl: u8) -> [u64; 4] {
+    queued_numbers(demands::add(queue, Demand { crate_number, sgl }))
+}
+
+/// Adds a row of demands; number, place, waiting, overflow.
+pub fn demand_row_numbers(queue: &mut [u8], row: &[u8]) -> [u64; 4] {
+    queued_numbers(demands::add_row(queue, row))
+}
+
+/// Takes a demand; number, place, waiting, overflow, found, crate, SGL.
+pub fn demand_take_numbers(queue: &mut [u8]) -> [u64; 7] {
+    let answer = demands::take(queue);
+    let taken = match answer {
+        Ok((Some(Demand { crate_number, sgl }), _)) => [1, crate_number, sgl],
+        _ => [0; 3],
+    };
+    let [found, crate_number, sgl] = taken.map(u64::from);
+    let [number, place, waiting, overflow] = queued_numbers(answer.map(|(_, queued)| queued));
+    [number, place, waiting, overflow, found, crate_number, sgl]
+}
+
+/// Clears a queue; number, place, waiting, overflow.
+pub fn demand_clear_numbers(queue: &mut [u8]) -> [u64; 4] {
+    queued_numbers(demands::clear(queue))
+}
+
+fn queued_numbers(answer: Result<Queued, Refusal>) -> [u64; 4] {
+    let [number, place] = refusal_numbers(answer.err());
+    match answer {
+        Ok(Queued { waiting, overflow }) => [number, place, waiting as u64, u64::from(overflow)],
+        Err(_) => [number, place, 0, 0],
+    }
 }
 
 /// Number and place; zeros where nothing was refused.

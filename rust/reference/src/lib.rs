@@ -8,6 +8,7 @@
 
 pub mod camrun;
 pub mod cases;
+pub mod demands;
 pub mod fit;
 pub mod host;
 pub mod list;

@@ -1,5 +1,6 @@
 //! The cases of documents 01 and 02 and the manual's examples.
 
+use reference::cases::demands::SEPARATE;
 use reference::cases::paper::{self, Engine};
 use reference::host::{admission_numbers, run_numbers, start_numbers, step_numbers};
 use reference::host::{to_binary_numbers, to_decimal_numbers};
@@ -15,6 +16,7 @@ const ENGINE: Engine = Engine {
     step: step_numbers,
     to_binary: to_binary_numbers,
     to_decimal: to_decimal_numbers,
+    demands: SEPARATE,
 };
 
 #[test]
@@ -41,6 +43,13 @@ fn steps_of_document_02() {
 #[test]
 fn rows_of_document_02() {
     for known in paper::rows() {
+        known.check(&ENGINE);
+    }
+}
+
+#[test]
+fn demands_of_document_02() {
+    for known in paper::demands() {
         known.check(&ENGINE);
     }
 }

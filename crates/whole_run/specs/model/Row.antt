@@ -8,13 +8,14 @@ use mathlib.Core.List.{List, [], _∷_}
 use mathlib.Core.Option.{Option, none, some}
 use lib.ListN.{drop}
 use Rattle.base.specs.Checks.{if_then_else_}
+use Rattle.base.specs.Refusals.{notRefused}
 use Rattle.listfile.specs.declared.check.Sizes.{Sizes}
 use Rattle.walk.specs.Admission.{Plan}
 use Rattle.walk.specs.declared.worst.Counts.{Counts}
 use Rattle.reply.specs.Replies.{replyOf, repliesIn}
 use Rattle.reply.specs.Effect.{State, stateOf}
 use Rattle.calls.specs.Fit.{fits}
-use Rattle.calls.specs.Calls.{notRefused, takeAt, RunThrough}
+use Rattle.calls.specs.Calls.{takeAt, RunThrough}
 use Rattle.reply.specs.declared.replies.Reply.{Reply}
 use Rattle.reply.specs.declared.records.Record.{Record}
 use Rattle.row.specs.model.Words.{FormedFrom}

@@ -8,12 +8,16 @@
 //! - `drive ENGINE admit NUMBER` makes an admission.
 //! - `drive ENGINE to_binary scalers - LONGWORDS` converts a row of so many scalers, and
 //!   `drive ENGINE to_decimal scalers - LONGWORDS` one back.
+//! - `drive ENGINE demands QUEUE CALL COUNT` adds a row of so many demands to a queue, or makes
+//!   as many calls: CALL is `row`, `add`, `take` or `clear`, QUEUE `empty` or `full` before them.
 //!
 //! ENGINE is `proved` or `plain`; the plain one has no steps.
 
-use bench::{admissions, scalers, workloads, Answers, Halfway, CLEAN_REPLY, SCALERS, STEP_LISTS};
+use bench::{admissions, demands, queue, scalers, workloads, Answers, Halfway};
+use bench::{CLEAN_REPLY, DEMANDS, SCALERS, STEP_LISTS};
 use camlist::ffi;
 use reference::cases::scalers::Way;
+use reference::demands::Demand;
 use reference::plain;
 use std::env;
 use std::hint::black_box;
@@ -43,6 +47,9 @@ fn main() {
         }
         [engine, "to_decimal", _, _, longwords] => {
             convert(engine == "proved", Way::ToDecimal, index(longwords))
+        }
+        [engine, "demands", queue, call, count] => {
+            demand_calls(engine == "proved", call, queue == "full", index(count))
         }
         _ => panic!("see the comment at this program's head"),
     }
@@ -76,6 +83,11 @@ fn print_calls() {
     }
     println!("to_binary scalers - {SCALERS} to binary");
     println!("to_decimal scalers - {SCALERS} to decimal");
+    for call in ["row", "add", "take", "clear"] {
+        for queue in ["empty", "full"] {
+            println!("demands {queue} {call} {DEMANDS} {call}, queue {queue}");
+        }
+    }
 }
 
 fn run(proved: bool, number: usize, answers: &str, replies: usize) {
@@ -139,5 +151,34 @@ fn convert(proved: bool, way: Way, longwords: usize) {
         (true, Way::ToDecimal) => drop(black_box(ffi::to_decimal(row))),
         (false, Way::ToBinary) => drop(black_box(plain::scalers::to_binary(row))),
         (false, Way::ToDecimal) => drop(black_box(plain::scalers::to_decimal(row))),
+    });
+}
+
+/// A row of so many demands, or as many single calls.
+fn demand_calls(proved: bool, call: &str, full: bool, count: usize) {
+    let row = &demands()[..2 * count];
+    let (demands, _) = row.as_chunks();
+    let queue = &mut queue(full);
+    match (proved, call) {
+        (true, "row") => for_each(&[row], |row| ffi::demand_row(queue, row)),
+        (false, "row") => for_each(&[row], |row| plain::demands::add_row(queue, row)),
+        (true, "add") => for_each(demands, |&[crate_number, sgl]| {
+            ffi::demand_add(queue, crate_number, sgl)
+        }),
+        (false, "add") => for_each(demands, |&demand| {
+            plain::demands::add(queue, Demand::of(demand))
+        }),
+        (true, "take") => for_each(demands, |_| ffi::demand_take(queue)),
+        (false, "take") => for_each(demands, |_| plain::demands::take(queue)),
+        (true, _) => for_each(demands, |_| ffi::demand_clear(queue)),
+        (false, _) => for_each(demands, |_| plain::demands::clear(queue)),
+    }
+}
+
+fn for_each<Given, Answer>(all: &[Given], mut call: impl FnMut(&Given) -> Answer) {
+    measured(&mut || {
+        for given in all {
+            black_box(&call(given));
+        }
     });
 }

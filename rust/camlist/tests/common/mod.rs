@@ -4,6 +4,7 @@
 #![allow(dead_code)]
 
 use camlist::ffi;
+use reference::cases::demands::{Call, Entries, Numbers, SEPARATE};
 use reference::cases::scalers::Way;
 use reference::host;
 use std::fmt::Arguments;
@@ -142,6 +143,38 @@ pub fn compare_scalers(
         assert!(after == row, "refused, yet converted: {what}");
     }
     (answer, after)
+}
+
+/// The library's calls on a queue of demands.
+pub const PROVED: Entries = Entries {
+    add: ffi::demand_add,
+    row: ffi::demand_row,
+    take: ffi::demand_take,
+    clear: ffi::demand_clear,
+};
+
+/// Compares a call on a queue of demands: answer, bytes and fences; what the queue is afterwards.
+pub fn compare_demands(call: &Call, queue: &[u8], what: Arguments) -> (Numbers, Vec<u8>) {
+    let shift = call.row().len() + usize::from(queue.last().copied().unwrap_or(5));
+    let (answer, after) = compare_fenced(
+        shift,
+        queue,
+        |queue| PROVED.make(call, queue),
+        |queue| SEPARATE.make(call, queue),
+        what,
+    );
+    if answer[0] != 0 {
+        assert!(after == queue, "refused, yet changed: {what}");
+    }
+    (answer, after)
+}
+
+/// Bytes as the programs in C take and print them: in hexadecimal, `-` for none.
+pub fn hex(bytes: &[u8]) -> String {
+    match bytes {
+        [] => String::from("-"),
+        _ => bytes.iter().map(|byte| format!("{byte:02X}")).collect(),
+    }
 }
 
 /// Gives each call a copy of a buffer between fences, at any address, and compares what they

@@ -1,11 +1,14 @@
 //! What a set of cases has met. A comparison that never met one of these proves little.
 
+mod demands;
 mod scalers;
 mod short;
 
+use std::cmp::Ordering;
 use std::collections::BTreeMap;
 
 use super::calls::{CallCase, Origin, NARROW};
+use super::demands::{Entry, Limit};
 use super::lists::{ENHANCED, MODE, Q_MODE};
 use super::records::StepCase;
 use super::scalers::Way;
@@ -22,6 +25,7 @@ use crate::run::{begin, current_camac, take};
 use crate::status;
 use crate::walk::{admission, Admitted};
 use crate::words::{enhanced_fault, Camac, Direction, EnhancedFault, QMode, Transfer, WordSize};
+pub use demands::Place;
 pub use scalers::{Fault, Longword};
 pub use short::{Buffer, ClosedAt, Follower, StopBlock};
 
@@ -191,6 +195,28 @@ pub enum Event {
     RefusedScaler(Way, Fault),
     RefusedAt(Way, Longword),
     FaultsBehind(Way),
+    /// Refusal 25 of a queue that is beyond this limit alone.
+    BeyondLimit(Entry, Limit),
+    /// Refusal 25 for this crate there; the same with 2,048 waiting, by the mark.
+    BadCrate(Entry, u8, Place),
+    BadCrateAtFull(Entry, bool),
+    /// Refusal 25 for half a demand, without and with a bad crate.
+    OddRow(bool),
+    /// An empty row, on a queue that is full or isn't.
+    EmptyRow(bool),
+    /// A row accepted with fewer demands than there is room for, as many, or more.
+    RowToRoom(Ordering),
+    /// Demands after which 2,048 wait for the first time; one dropped, by the mark before.
+    Filled(Entry),
+    Dropped(Entry, bool),
+    /// Demands put into the cells up to the last one, and into the first one behind it.
+    LastCell(Entry),
+    CellsWrap(Entry),
+    /// A take with none waiting, with one, and with more, by the mark; from the last cell.
+    Taken(usize, bool),
+    FirstCellWraps,
+    /// A clear, by whether any waits and by the mark.
+    Cleared(bool, bool),
 }
 
 /// Counters of events.

@@ -1,10 +1,11 @@
-//! Cases for comparison: lists, buffers, rows of replies and rows of scalers, made from a
-//! seed and a number. The same seed and number give the same case.
+//! Cases for comparison: lists, buffers, rows of replies, rows of scalers and calls on queues
+//! of demands, made from a seed and a number. The same seed and number give the same case.
 
 pub mod by_hand;
 pub mod calls;
 pub mod coverage;
 pub mod damage;
+pub mod demands;
 pub mod lists;
 pub mod paper;
 pub mod records;

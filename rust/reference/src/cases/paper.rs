@@ -3,12 +3,15 @@
 //! engine with the calls of the C interface can be held against them.
 
 mod damaged;
+mod demands;
 mod longwords;
 mod scalers;
 mod short_blocks;
 
 use super::by_hand::*;
+use super::demands::Entries;
 use crate::camrun::MOST_BYTES;
+pub use demands::{known as demands, result, Fill, KnownDemands, FILLS};
 pub use scalers::KnownRow;
 
 /// List, both buffer lengths.
@@ -30,6 +33,7 @@ pub struct Engine {
     pub step: Step,
     pub to_binary: Convert,
     pub to_decimal: Convert,
+    pub demands: Entries,
 }
 
 /// One case and its outcome, in camrun's words.

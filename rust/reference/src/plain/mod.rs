@@ -1,12 +1,13 @@
-//! Admission, the whole run and the conversion of scalers once more, as fast as plain safe
-//! Rust makes them: the base line of the benchmark.
+//! Admission, the whole run, the conversion of scalers and queues of demands once more, as fast
+//! as plain safe Rust makes them: the base line of the benchmark.
 //!
-//! They yield what `walk::admit` and `run::run_row` yield, and `scalers` what the module of
-//! that name yields. In a whole run one pass checks the row. Then each visit of the walk looks
-//! at its instruction once and takes the answers that are no cause in a loop of its own, eight
-//! at a time where it can; the reply that stops that loop short of the last word closes a stop
-//! block or ends the run.
+//! They yield what `walk::admit` and `run::run_row` yield, and `scalers` and `demands` what the
+//! modules of these names yield. In a whole run one pass checks the row. Then each visit of the
+//! walk looks at its instruction once and takes the answers that are no cause in a loop of its
+//! own, eight at a time where it can; the reply that stops that loop short of the last word
+//! closes a stop block or ends the run.
 
+pub mod demands;
 mod plan;
 pub mod scalers;
 

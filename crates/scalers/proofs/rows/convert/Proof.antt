@@ -4,6 +4,7 @@ use Prim.Native.Nat.{ℕ}
 use mathlib.Core.Path.{_≡_, sym, ap, _∙_}
 use mathlib.Core.List.{List}
 use native.Mathlib.Omega.{arith}
+use Rattle.base.specs.Refusals.{notRefused}
 use Rattle.base.specs.declared.Refusal.{Refusal}
 use Rattle.scalers.specs.Scalers.{Outcome, leaving}
 use Rattle.scalers.proofs.RowLaws.{no-longwords, by-check}
@@ -46,7 +47,7 @@ returns-3 c =
     let at-check = c .before .before .before .before .before .before in
     let called = c .before .before .convert-all in
     parts (by-check _ _ (at-check .before .before .if1 .left) (sym (c .before .before .before .before .enum-told .given .1) ∙ at-check .check .ensures)
-    ∙ ap (leaving 0 0) (sym (called .ensures)))
+    ∙ ap (leaving notRefused) (sym (called .ensures)))
 
 pub convert-spec : {M : Type 1} → statement M
 convert-spec =

@@ -3,9 +3,9 @@ use mathlib.Core.Path.{_≡_, ap, subst}
 use mathlib.Core.Logic.{inr}
 use mathlib.Core.Bool.{true, false}
 use borrow.Author.Needs.{needs}
+use Rattle.base.specs.Refusals.{notRefused}
 use Rattle.walk.specs.model.Sums.{planBy}
 use Rattle.calls.specs.Fit.{fits}
-use Rattle.calls.specs.Calls.{notRefused}
 use Rattle.calls.specs.declared.operations.Operation.{Operation}
 use Rattle.step.proofs.PlanLaws.{prepared-planned}
 use Rattle.step.proofs.Search.{unfit-by, alive-by}

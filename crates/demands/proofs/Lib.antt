@@ -1,0 +1,6 @@
+pub mod LayoutLaws
+pub mod WaitingLaws
+pub mod Kept
+pub mod Examples
+pub mod RowLaws
+pub mod CallLaws
