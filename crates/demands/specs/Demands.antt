@@ -48,6 +48,7 @@ isQueue q = allOf (eqb (length q) 4101 ∷ ltb (firstIn q) 2048 ∷ leb (waiting
 abbrev pub cellOf : ℕ → ℕ
 cellOf k = k % 2048
 
+-- the demand in a cell, and the bytes with one put there
 unfoldable pub demandAt : List ℕ → ℕ → Demand
 demandAt q k = demandOf (byteAt q (cellOf k * 2)) (byteAt q (cellOf k * 2 + 1))
 
@@ -81,6 +82,7 @@ addedAll q (d ∷ ds) = addedAll (addedTo q d) ds
 abbrev pub isCrate : ℕ → Bool
 isCrate c = leb 1 c && leb c 62
 
+-- of every demand
 abbrev pub areCrates : List Demand → Bool
 areCrates [] = true
 areCrates (d ∷ ds) = isCrate (d .«crate_number») && areCrates ds
@@ -107,6 +109,7 @@ pub record Outcome : Type 0 where
 abbrev pub answerIn : List ℕ → Queued
 answerIn q = record { refusal = notRefused; waiting = waitingNumber q; overflow = not (eqb (markIn q) 0) }
 
+-- a call that is accepted
 abbrev pub leaving : Next → List ℕ → Outcome
 leaving next q = record { queued = answerIn q; next = next; queue = q }
 
@@ -118,9 +121,11 @@ refusedAnswer = record { refusal = refusal 25; waiting = 0; overflow = false }
 abbrev pub refusing : List ℕ → Outcome
 refusing q = record { queued = refusedAnswer; next = Nothing; queue = q }
 
+-- "add": refused for the queue or the crate, 25
 unfoldable pub addOf : List ℕ → Demand → Outcome
 addOf q d = if isQueue q && isCrate (d .«crate_number») then leaving Nothing (addedTo q d) else refusing q
 
+-- "add-row": refused for the queue or any part of the row, which is judged whole before a demand of it is added
 unfoldable pub rowOf : List ℕ → List ℕ → Outcome
 rowOf q row = if isQueue q && isRow row then leaving Nothing (addedAll q (demandsIn row)) else refusing q
 

@@ -21,6 +21,7 @@ pub data Call : Type 0 where
   Take : Call
   Clear : Call
 
+-- what a call leaves
 abbrev pub outcomeOf : List ℕ → Call → Outcome
 outcomeOf q (Add d) = addOf q d
 outcomeOf q (AddRow row) = rowOf q row
@@ -101,12 +102,14 @@ unfoldable pub lostOver : List ℕ → List Demand → List Call → List Demand
 lostOver q lost [] = lost
 lostOver q lost (c ∷ cs) = lostOver (outcomeOf q c .queue) (lostBy q lost c) cs
 
+-- set exactly when any was
 abbrev pub markFor : List Demand → ℕ
 markFor [] = 0
 markFor (d ∷ ds) = 1
 
 -- A row, and its demands singly ------------------------------------------------------------------------------------------
 
+-- each of them in a call of its own, one after the other: none is refused, and what they leave
 abbrev pub EachAccepted : List ℕ → List Demand → Type 0
 EachAccepted q [] = Unit {0}
 EachAccepted q (d ∷ ds) = (isAccepted (addOf q d) ≡ true) × EachAccepted (addOf q d .queue) ds
@@ -117,6 +120,7 @@ eachAdded q (d ∷ ds) = eachAdded (addOf q d .queue) ds
 
 -- The statement ----------------------------------------------------------------------------------------------------------
 
+-- nothing of none, else the oldest
 abbrev pub oldestOf : List Demand → Next
 oldestOf [] = Nothing
 oldestOf (d ∷ ds) = Oldest d
