@@ -1,20 +1,27 @@
 //! The acceptance tooling of the crate list engine.
 //!
 //! A wrong engine is an edit that the prover must refuse, and for a fact: not because a
-//! proof file no longer fits the text. `crates/NAME/must-fail` has the edits of a crate's
-//! code and of its own definitions. `acceptance/definitions` has those of the definitions
+//! proof file no longer fits the text. `crates/NAME/must-fail` has those that the papers name,
+//! edits of one crate, which `rt ci` tries from nothing. `acceptance/code` has our own, of one
+//! crate each, tried over what is proved. `acceptance/definitions` has those of the definitions
 //! that the theorems of the crates `worst_count`, `scalers` and `demands` are about; they are
 //! tried where there is no code, so that only these, and the laws that they cite, can refuse
-//! them.
+//! them. The program `mutations` makes small changes of its own in every function.
 
 #![forbid(unsafe_code)]
 
+pub mod changes;
 pub mod definitions;
 pub mod edit;
 pub mod files;
+pub mod further;
+pub mod jobs;
 pub mod must_fail;
+pub mod mutations;
 pub mod needs;
 pub mod reading;
+pub mod refit;
 pub mod repository;
+pub mod trial;
 pub mod types;
 pub mod verdict;

@@ -1,5 +1,5 @@
 //! Tries every wrong engine and lists the fact that refuses each: the must-fail edits of
-//! all crates, then the edits of `acceptance/definitions`. The must-fail edits are tried
+//! all crates, then the edits of `acceptance/code` and of `acceptance/definitions`. The must-fail edits are tried
 //! anew by `rt must-fail`, unless `rt ci` or `rt must-fail` tried them all since crates/
 //! last changed. The exit status is 0 only where a fact refuses every one of them.
 
@@ -7,7 +7,7 @@ use std::path::Path;
 use std::process::ExitCode;
 
 use acceptance::verdict::Verdict;
-use acceptance::{definitions, must_fail, repository};
+use acceptance::{definitions, further, must_fail, repository};
 
 type Row = (String, Verdict);
 
@@ -32,18 +32,22 @@ fn definition_rows(root: &Path) -> Result<Vec<Row>, String> {
 }
 
 fn list(root: &Path) -> Result<bool, String> {
-    let code = must_fail::outcomes(root)?;
-    print("Must-fail edits, and the law that refuses each:", &code);
+    let must_fail = must_fail::outcomes(root)?;
+    print(
+        "Must-fail edits, and the law that refuses each:",
+        &must_fail,
+    );
+    let further = further::outcomes(root)?;
+    print("Further edits, and the law that refuses each:", &further);
     let definitions = definition_rows(root)?;
     print(
         "Edits of the definitions, and the law that refuses each:",
         &definitions,
     );
-    let all = code.len() + definitions.len();
-    let is_fact = |row: &&Row| row.1.is_fact();
-    let facts = code.iter().chain(&definitions).filter(is_fact).count();
-    println!("{facts} refused for a fact, {} not", all - facts);
-    Ok(facts == all)
+    let all = [must_fail, further, definitions].concat();
+    let facts = all.iter().filter(|row| row.1.is_fact()).count();
+    println!("{facts} refused for a fact, {} not", all.len() - facts);
+    Ok(facts == all.len())
 }
 
 fn main() -> ExitCode {

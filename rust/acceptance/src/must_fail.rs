@@ -33,7 +33,7 @@ fn said(root: &Path, label: &str) -> (PathBuf, String) {
 }
 
 /// Whether every edit was tried after the last change below crates/.
-fn is_current(root: &Path) -> Result<bool, String> {
+pub fn are_tried(root: &Path) -> Result<bool, String> {
     let last_change = files::newest(&root.join("crates"))?;
     let is_after = |label: &String| {
         let (path, line) = said(root, label);
@@ -77,16 +77,20 @@ fn outcome(root: &Path, label: &str) -> Result<Verdict, String> {
     Ok(verdict::judge(&verdict::reports(&log, &folder)))
 }
 
-/// Each edit, as CRATE/LABEL, with its verdict. They are tried anew unless each was tried
-/// since the last change.
-pub fn outcomes(root: &Path) -> Result<Vec<(String, Verdict)>, String> {
-    if !is_current(root)? {
-        run(root)?;
-    }
+/// Each edit, as CRATE/LABEL, with its verdict, by what `rt` left.
+pub fn verdicts(root: &Path) -> Result<Vec<(String, Verdict)>, String> {
     let mut found = Vec::new();
     for label in labels(root)? {
         let verdict = outcome(root, &label)?;
         found.push((label, verdict));
     }
     Ok(found)
+}
+
+/// The same, tried anew unless each was tried since the last change.
+pub fn outcomes(root: &Path) -> Result<Vec<(String, Verdict)>, String> {
+    if !are_tried(root)? {
+        run(root)?;
+    }
+    verdicts(root)
 }

@@ -3,13 +3,11 @@
 //! Words on the command line choose the edits whose names contain one of them.
 
 use std::process::ExitCode;
-use std::sync::atomic::{AtomicUsize, Ordering};
-use std::thread;
 use std::time::Instant;
 
 use acceptance::definitions::{self, Base};
 use acceptance::edit::Edit;
-use acceptance::repository;
+use acceptance::{jobs, repository};
 
 fn is_chosen(edit: &Edit) -> bool {
     let mut words = std::env::args()
@@ -34,23 +32,6 @@ fn is_refused(base: &Base, edit: &Edit) -> bool {
     is_fact
 }
 
-/// How many of the edits are refused. Each processor takes the next one.
-fn refused_of(base: &Base, edits: &[Edit]) -> usize {
-    let next = AtomicUsize::new(0);
-    let take = || {
-        let mut refused = 0;
-        while let Some(edit) = edits.get(next.fetch_add(1, Ordering::Relaxed)) {
-            refused += usize::from(is_refused(base, edit));
-        }
-        refused
-    };
-    let jobs = thread::available_parallelism().map_or(1, usize::from);
-    thread::scope(|scope| {
-        let workers: Vec<_> = (0..jobs).map(|_| scope.spawn(take)).collect();
-        workers.into_iter().map(|w| w.join().unwrap_or(0)).sum()
-    })
-}
-
 /// How many held and how many did not; the definitions without an edit count as one.
 fn tally() -> Result<(usize, usize), String> {
     let root = repository::root();
@@ -58,7 +39,8 @@ fn tally() -> Result<(usize, usize), String> {
     let base = Base::prove(&root)?;
     println!("the definitions alone .. proved");
     let chosen: Vec<Edit> = edits.into_iter().filter(is_chosen).collect();
-    let refused = refused_of(&base, &chosen);
+    let refused = jobs::side_by_side(&chosen, |edit| is_refused(&base, edit));
+    let refused = refused.into_iter().filter(|is_refused| *is_refused).count();
     Ok((refused + 1, chosen.len() - refused))
 }
 
