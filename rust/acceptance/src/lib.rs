@@ -9,12 +9,18 @@
 
 #![forbid(unsafe_code)]
 
+pub mod code;
 pub mod definitions;
 pub mod edit;
 pub mod files;
 pub mod must_fail;
 pub mod needs;
+pub mod pages;
+pub mod printed;
+pub mod quotations;
 pub mod reading;
 pub mod repository;
+pub mod sizes;
+pub mod tables;
 pub mod types;
 pub mod verdict;
