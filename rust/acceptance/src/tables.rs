@@ -41,19 +41,19 @@ fn laws_in(path: &str, text: &str, pages: &[Page]) -> Vec<(String, String)> {
     found
 }
 
-/// What stands at the text that an edit replaces: the innermost item there.
-fn changed(root: &Path, file: &str, old: &str, items: &[&Item]) -> Result<Option<String>, String> {
+/// What stands at the text that an edit replaces: the innermost item there, and the type that
+/// it is of.
+fn changed(root: &Path, file: &str, old: &str, items: &[&Item]) -> Result<Vec<String>, String> {
     let text = files::read(&root.join("crates").join(file))?;
     let at = text.find(old).ok_or(format!("{file} has not: {old}"))?;
     let line = text[..at].matches('\n').count();
     let path = file.rsplit_once('.').map_or(file, |(path, _)| path);
-    let is_there =
-        |item: &&&Item| item.name.starts_with(&format!("{path}:")) && item.lines.contains(&line);
-    let innermost = items
-        .iter()
-        .filter(is_there)
-        .max_by_key(|item| item.lines.start);
-    Ok(innermost.map(|item| item.name.clone()))
+    let own = format!("{path}:");
+    let is_there = |item: &&&Item| item.name.starts_with(&own) && item.lines.contains(&line);
+    let there = items.iter().filter(is_there);
+    let innermost = there.max_by_key(|item| item.lines.start);
+    let names = innermost.map(|item| [Some(item.name.clone()), item.owner.clone()]);
+    Ok(names.into_iter().flatten().flatten().collect())
 }
 
 /// The edits of a folder; their files are named from `below` crates/.
@@ -138,15 +138,20 @@ impl Tree {
         found.map(|law| law.0.as_str()).collect()
     }
 
-    /// The definitions that use one of these.
+    /// The definitions that use one of these; those that describe code only where no other does.
     fn users_of(&self, definitions: &BTreeSet<&str>) -> Vec<&str> {
         let is_other =
             |item: &&Item| item.owner.is_none() && !definitions.contains(item.name.as_str());
-        let found = self
-            .items()
-            .filter(is_other)
-            .filter(|item| cites(item, definitions));
-        found.map(|item| item.name.as_str()).collect()
+        let found = self.items().filter(is_other);
+        let found = found.filter(|item| cites(item, definitions));
+        let (models, users): (Vec<&str>, Vec<&str>) = found
+            .map(|item| item.name.as_str())
+            .partition(|name| name.contains("/specs/model/"));
+        if users.is_empty() {
+            models
+        } else {
+            users
+        }
     }
 
     /// The edits that change one of these definitions and functions.
@@ -164,17 +169,17 @@ impl Tree {
     fn code(&self, page: &str, rule: &Rule) -> (String, Vec<&str>) {
         let definitions = self.definitions(rule);
         let functions = self.functions_of(&definitions);
-        let laws = self.laws_of(&definitions);
-        let users = self.users_of(&definitions);
-        match (functions.is_empty(), laws.is_empty()) {
-            (false, _) => (listed(page, &functions), functions),
-            (true, false) => (format!("law {}", listed(page, &laws)), Vec::new()),
-            (true, true) => {
-                let by_users = self.functions_of(&users.iter().copied().collect());
-                let cell = format!("in {}", listed(page, &users));
-                (cell, [users, by_users].concat())
-            }
+        if !functions.is_empty() {
+            return (listed(page, &functions), functions);
         }
+        let laws = self.laws_of(&definitions);
+        if !laws.is_empty() {
+            return (format!("law {}", listed(page, &laws)), Vec::new());
+        }
+        let users = self.users_of(&definitions);
+        let those = users.iter().copied().collect();
+        let cell = format!("in {}", listed(page, &users));
+        (cell, [users, self.functions_of(&those)].concat())
     }
 
     fn row(&self, page: &str, rule: &Rule) -> String {
@@ -227,5 +232,96 @@ fn listed(page: &str, names: &[&str]) -> String {
             format!("{} and {} more", shown.join(", "), count - MOST_NAMES)
         }
         _ => shown.join(", "),
+    }
+}
+
+#[cfg(test)]
+mod tests {
+    use super::*;
+
+    const PAGE: &str = "\
+-- A page (document 01).
+
+-- \"one\"
+abbrev pub first : ℕ
+first = 1
+
+-- \"two\" (E8)
+abbrev pub second : ℕ
+second = first
+
+pub record Sums : Type 0 where
+  -- \"three\"
+  pub sum : second ≡ 1
+";
+
+    const CODE: &str = "\
+ghost use Rattle.a.specs.P.{second};
+
+fn two() -> u8
+    ensures { λ r. ⌜ r ≡ second ⌝ }
+{
+    1
+}
+";
+
+    fn tree() -> Tree {
+        let pages = vec![pages::page("a/specs/P", PAGE).expect("a page")];
+        let edit = |name: &str, changed: &str| Changing {
+            path: format!("a/must-fail/{name}"),
+            changes: [changed.to_string()].into(),
+        };
+        Tree {
+            laws: laws_in("a/proofs/L", "pub sums : Sums\nother : ℕ\n", &pages),
+            functions: code::functions("a/src/lib", CODE),
+            pages,
+            edits: vec![
+                edit("wrong", "a/src/lib:two"),
+                edit("else", "b/src/lib:two"),
+            ],
+        }
+    }
+
+    #[test]
+    fn rows_of_a_page() {
+        let text = tree().rules();
+        let rows: Vec<&str> = text
+            .lines()
+            .filter(|line| line.starts_with("| \""))
+            .collect();
+        let wanted = [
+            "| \"one\" | `first` | in `second` | `a/must-fail/wrong` |",
+            "| \"two\" (E8) | `second` | `a/src/lib:two` | `a/must-fail/wrong` |",
+            "| \"three\" | `sum` | law `a/proofs/L:sums` | none |",
+        ];
+        assert_eq!(rows, wanted);
+        assert!(text.starts_with("\n### `a/specs/P`\n\nA page (document 01).\n\n| Words |"));
+    }
+
+    #[test]
+    fn long_cells_are_cut() {
+        let names = ["p:a", "q:b", "c", "d", "e", "f", "g", "h", "i"];
+        let cell = listed("p", &names);
+        assert!(cell.starts_with("`a`, `q:b`, `c`") && cell.ends_with("`h` and 1 more"));
+        assert_eq!(listed("p", &[]), "none");
+    }
+
+    #[test]
+    fn edits_of_this_repository() {
+        let tree = Tree::read(&repository::root()).expect("a tree");
+        let changes = |path: &str| {
+            let edit = tree.edits.iter().find(|edit| edit.path == path);
+            edit.expect("an edit").changes.clone()
+        };
+        let found = changes("camac/must-fail/repeat_write_admitted");
+        assert!(
+            found.contains("camac/src/words:is_bad_enhanced"),
+            "{found:?}"
+        );
+        let found = changes("acceptance/definitions/bit_29_passes");
+        assert!(
+            found.contains("scalers/specs/Scalers:isHighSet"),
+            "{found:?}"
+        );
     }
 }
