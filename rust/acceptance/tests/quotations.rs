@@ -58,7 +58,8 @@ fn in_definitions(root: &Path) -> Result<Vec<Found>, String> {
             let comments = quotations::comments(&files::read(&path)?, "--");
             let head = comments.first().map_or("", |(_, text)| text.as_str());
             let usual = Source::of_head(head);
-            found.extend(all_in(&path.display().to_string(), &comments, usual)?);
+            let file = path.strip_prefix(root).unwrap_or(&path).display();
+            found.extend(all_in(&file.to_string(), &comments, usual)?);
         }
     }
     Ok(found)
@@ -79,7 +80,7 @@ fn faults(found: &[&Found], text_of: &dyn Fn(Source) -> String) -> Vec<String> {
     let stands = |f: &&&Found| quotations::stands(&f.quotation.words, &text_of(f.quotation.source));
     let wrong = found.iter().filter(|f| !stands(f));
     wrong
-        .map(|f| format!("{}: it does not say: {}", f.place, f.quotation))
+        .map(|f| format!("{}: its paper does not say {}", f.place, f.quotation))
         .collect()
 }
 
