@@ -1,4 +1,4 @@
-//! Every quotation in the definitions, the proofs and the documents stands in the paper that
+//! Every quotation in the comments of the crates and in the documents stands in the paper that
 //! it is marked as, and READING.md quotes the customer's three demands. A paper that is not
 //! at hand, beside the repository in ../shared, is said to be left out.
 
@@ -24,11 +24,18 @@ struct Found {
     quotation: Quotation,
 }
 
-fn files_below(folder: &Path) -> Vec<PathBuf> {
-    let mut found = files::with_ending(folder, "antt").unwrap_or_default();
+/// The parts of a crate, the ending of their files and the sign of a comment in them.
+const PARTS: [(&str, &str, &str); 3] = [
+    ("specs", "antt", "--"),
+    ("proofs", "antt", "--"),
+    ("src", "rt", "//"),
+];
+
+fn files_below(folder: &Path, ending: &str) -> Vec<PathBuf> {
+    let mut found = files::with_ending(folder, ending).unwrap_or_default();
     let folders = files::entries(folder).unwrap_or_default();
     for path in folders.iter().filter(|path| path.is_dir()) {
-        found.extend(files_below(path));
+        found.extend(files_below(path, ending));
     }
     found
 }
@@ -47,19 +54,22 @@ fn all_in(file: &str, texts: &[(usize, String)], usual: Source) -> Result<Vec<Fo
     Ok(found)
 }
 
-fn in_definitions(root: &Path) -> Result<Vec<Found>, String> {
+/// The quotations of a file's comments.
+fn in_file(root: &Path, path: &Path, sign: &str) -> Result<Vec<Found>, String> {
+    let comments = quotations::comments(&files::read(path)?, sign);
+    let head = comments.first().map_or("", |(_, text)| text.as_str());
+    let file = path.strip_prefix(root).unwrap_or(path).display();
+    all_in(&file.to_string(), &comments, Source::of_head(head))
+}
+
+fn in_crates(root: &Path) -> Result<Vec<Found>, String> {
     let mut found = Vec::new();
     for c in repository::listed(root)? {
-        let folder = root.join("crates").join(&c.name);
-        for path in ["specs", "proofs"]
-            .iter()
-            .flat_map(|part| files_below(&folder.join(part)))
-        {
-            let comments = quotations::comments(&files::read(&path)?, "--");
-            let head = comments.first().map_or("", |(_, text)| text.as_str());
-            let usual = Source::of_head(head);
-            let file = path.strip_prefix(root).unwrap_or(&path).display();
-            found.extend(all_in(&file.to_string(), &comments, usual)?);
+        for (part, ending, sign) in PARTS {
+            let folder = root.join("crates").join(&c.name).join(part);
+            for path in files_below(&folder, ending) {
+                found.extend(in_file(root, &path, sign)?);
+            }
         }
     }
     Ok(found)
@@ -153,7 +163,7 @@ fn too_long(found: &[Found]) -> Vec<String> {
 
 /// The faults of each part that could be looked at.
 fn parts(root: &Path) -> Result<Vec<Vec<String>>, String> {
-    let mut found = in_definitions(root)?;
+    let mut found = in_crates(root)?;
     found.extend(in_documents(root)?);
     let of = |is_meant: fn(&Source) -> bool| -> Vec<&Found> {
         found
