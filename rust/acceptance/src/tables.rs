@@ -5,14 +5,16 @@ use std::collections::BTreeSet;
 use std::path::Path;
 
 use crate::code;
-use crate::edit;
+use crate::edit::{self, Pair};
 use crate::files;
 use crate::pages::{self, Item, Page, Rule};
 use crate::repository;
 
-/// An edit of the repository: its path, and what it changes.
+/// An edit of the repository: its path, the page or source file of its first text, and what
+/// it changes.
 struct Changing {
     path: String,
+    file: String,
     changes: BTreeSet<String>,
 }
 
@@ -41,19 +43,61 @@ fn laws_in(path: &str, text: &str, pages: &[Page]) -> Vec<(String, String)> {
     found
 }
 
-/// What stands at the text that an edit replaces: the innermost item there, and the type that
-/// it is of.
+fn without_ending(file: &str) -> &str {
+    file.rsplit_once('.').map_or(file, |(path, _)| path)
+}
+
+/// The constant that a line belongs to, if any: its name.
+fn constant<'a>(lines: &[&'a str], at: usize) -> Option<&'a str> {
+    let own = lines[..=at]
+        .iter()
+        .rev()
+        .take_while(|line| !line.is_empty());
+    let declared = |line: &&'a str| line.trim_start_matches("pub ").strip_prefix("const ");
+    own.filter_map(declared).next()?.split(':').next()
+}
+
+/// Whether a part of a file has a name as a word.
+fn mentions(lines: &[&str], name: &str) -> bool {
+    let is_between = |c: char| !c.is_alphanumeric() && c != '_';
+    lines
+        .iter()
+        .any(|line| line.split(is_between).any(|word| word == name))
+}
+
+/// What stands at a line: the innermost item, and the type that it is of; of a constant, the
+/// functions that use it.
+fn standing_at(lines: &[&str], at: usize, items: &[&Item]) -> Vec<String> {
+    let there = items.iter().filter(|item| item.lines.contains(&at));
+    if let Some(item) = there.max_by_key(|item| item.lines.start) {
+        let names = [Some(item.name.clone()), item.owner.clone()];
+        return names.into_iter().flatten().collect();
+    }
+    let Some(name) = constant(lines, at) else {
+        return Vec::new();
+    };
+    let users = items
+        .iter()
+        .filter(|item| mentions(&lines[item.lines.clone()], name));
+    users.map(|item| item.name.clone()).collect()
+}
+
+/// What an edit changes where it replaces a text.
 fn changed(root: &Path, file: &str, old: &str, items: &[&Item]) -> Result<Vec<String>, String> {
     let text = files::read(&root.join("crates").join(file))?;
     let at = text.find(old).ok_or(format!("{file} has not: {old}"))?;
-    let line = text[..at].matches('\n').count();
-    let path = file.rsplit_once('.').map_or(file, |(path, _)| path);
-    let own = format!("{path}:");
-    let is_there = |item: &&&Item| item.name.starts_with(&own) && item.lines.contains(&line);
-    let there = items.iter().filter(is_there);
-    let innermost = there.max_by_key(|item| item.lines.start);
-    let names = innermost.map(|item| [Some(item.name.clone()), item.owner.clone()]);
-    Ok(names.into_iter().flatten().flatten().collect())
+    let own = format!("{}:", without_ending(file));
+    let items: Vec<&Item> = items
+        .iter()
+        .filter(|item| item.name.starts_with(&own))
+        .copied()
+        .collect();
+    let lines: Vec<&str> = text.lines().collect();
+    Ok(standing_at(
+        &lines,
+        text[..at].matches('\n').count(),
+        &items,
+    ))
 }
 
 /// The edits of a folder; their files are named from `below` crates/.
@@ -66,14 +110,20 @@ fn edits_in(
     let mut found = Vec::new();
     for path in files::with_ending(&root.join(folder), "edit")? {
         let edit = edit::read_with_remarks(&path)?;
+        let file_of = |pair: &Pair| format!("{below}{}", pair.file.trim_start_matches("crates/"));
         let mut changes = BTreeSet::new();
         for pair in &edit.pairs {
-            let file = pair.file.trim_start_matches("crates/");
-            changes.extend(changed(root, &format!("{below}{file}"), &pair.old, items)?);
+            changes.extend(changed(root, &file_of(pair), &pair.old, items)?);
         }
+        let file = edit.pairs.first().map(file_of).unwrap_or_default();
         let folder = folder.trim_start_matches("crates/");
         let path = format!("{folder}/{}", edit.label);
-        found.push(Changing { path, changes });
+        let file = without_ending(&file).to_string();
+        found.push(Changing {
+            path,
+            file,
+            changes,
+        });
     }
     Ok(found)
 }
@@ -195,8 +245,45 @@ impl Tree {
         format!("| {words} | {definitions} | {code} | {edits} |")
     }
 
+    /// What an edit has to do with the promises: what the contracts of the functions that it
+    /// changes cite, or where its definitions come to code.
+    fn promise(&self, edit: &Changing) -> String {
+        let is_changed = |item: &&Item| edit.changes.contains(&item.name);
+        let functions: Vec<&Item> = self.functions.iter().filter(is_changed).collect();
+        let cited = functions.iter().flat_map(|item| &item.cites);
+        let cited: BTreeSet<&str> = cited.map(String::as_str).collect();
+        if !functions.is_empty() || edit.changes.is_empty() {
+            return listed("", &cited.into_iter().collect::<Vec<_>>());
+        }
+        let names = edit.changes.iter().cloned().collect();
+        let quotations = Vec::new();
+        self.code("", &Rule { quotations, names }).0
+    }
+
+    /// The table of the edits that no rule's row has.
+    fn other_edits(&self, rows: &str) -> String {
+        let mut text = "\n### Edits of other lines\n\n".to_string();
+        text += "| Edit | Changes | Contract or use |\n|---|---|---|\n";
+        let is_other = |edit: &&Changing| !rows.contains(&format!("`{}`", edit.path));
+        for edit in self.edits.iter().filter(is_other) {
+            let changes: Vec<&str> = edit.changes.iter().map(String::as_str).collect();
+            let changes = if changes.is_empty() {
+                vec![edit.file.as_str()]
+            } else {
+                changes
+            };
+            text += &format!(
+                "| `{}` | {} | {} |\n",
+                edit.path,
+                listed("", &changes),
+                self.promise(edit)
+            );
+        }
+        text
+    }
+
     /// The tables: a heading for each page with a quotation above a definition, and a row for
-    /// each comment with quotations.
+    /// each comment with quotations; then the edits of which no row tells.
     pub fn rules(&self) -> String {
         let mut text = String::new();
         for page in self.pages.iter().filter(|page| !page.rules.is_empty()) {
@@ -206,7 +293,8 @@ impl Tree {
                 text += &format!("{}\n", self.row(&page.path, rule));
             }
         }
-        text + "\n"
+        let others = self.other_edits(&text);
+        format!("{text}{others}\n")
     }
 }
 
@@ -269,6 +357,7 @@ fn two() -> u8
         let pages = vec![pages::page("a/specs/P", PAGE).expect("a page")];
         let edit = |name: &str, changed: &str| Changing {
             path: format!("a/must-fail/{name}"),
+            file: "a/src/lib".to_string(),
             changes: [changed.to_string()].into(),
         };
         Tree {
@@ -295,7 +384,27 @@ fn two() -> u8
             "| \"three\" | `sum` | law `a/proofs/L:sums` | none |",
         ];
         assert_eq!(rows, wanted);
+        let others = text
+            .split("### Edits of other lines")
+            .nth(1)
+            .expect("a table");
+        assert!(
+            others.contains("\n| `a/must-fail/else` | `b/src/lib:two` |"),
+            "{others}"
+        );
+        assert!(!others.contains("wrong"));
         assert!(text.starts_with("\n### `a/specs/P`\n\nA page (document 01).\n\n| Words |"));
+    }
+
+    #[test]
+    fn what_stands_at_a_line() {
+        let text = "const ONE: [u8; 1] = [\n    1,\n];\n\nfn two() {\n    ONE\n}\n\nfn three() {\n    1\n}\n";
+        let lines: Vec<&str> = text.lines().collect();
+        let functions = code::functions("a/src/lib", text);
+        let items: Vec<&Item> = functions.iter().collect();
+        assert_eq!(standing_at(&lines, 1, &items), ["a/src/lib:two"]);
+        assert_eq!(standing_at(&lines, 9, &items), ["a/src/lib:three"]);
+        assert!(standing_at(&lines, 3, &items).is_empty());
     }
 
     #[test]
