@@ -6,6 +6,10 @@
 //! that the theorems of the crates `worst_count`, `scalers` and `demands` are about; they are
 //! tried where there is no code, so that only these, and the laws that they cite, can refuse
 //! them.
+//!
+//! The documents are held to the tree: the names that they cite (`reading`), the words that
+//! they and the definitions quote (`quotations`), the tables that are printed into them
+//! (`printed`, of `tables` and `sizes`).
 
 #![forbid(unsafe_code)]
 
