@@ -1,4 +1,4 @@
--- Numbers in a row of bytes (document 01: "Multi-byte values are little-endian").
+-- Numbers in a row of bytes.
 use Prim.Native.Nat.{ℕ, _+_, _*_, _/_, _%_, _<_}
 use mathlib.Core.List.{List, [], _∷_, _++_}
 use lib.ListN.{getD}
@@ -7,7 +7,7 @@ use lib.ListN.{getD}
 unfoldable pub byteAt : List ℕ → ℕ → ℕ
 byteAt bytes i = getD bytes i 0
 
--- the number of two, four, eight bytes from a place on
+-- "Multi-byte values are little-endian": the number of two, four, eight bytes from a place on
 unfoldable pub shortAt : List ℕ → ℕ → ℕ
 shortAt bytes i = byteAt bytes i + byteAt bytes (i + 1) * 256
 

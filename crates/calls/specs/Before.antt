@@ -1,5 +1,5 @@
--- What a change request did to fit: a record that fitted before it fits after it (document 02, E8: "Records saved .. before the change load
--- unharmed and finish by this rule"). The statement is Unharmed, last on this page; the proof is proofs/FitsStill.
+-- What a change request did to fit (document 02, E8): a record that fitted before it fits after it. The statement is Unharmed, last on this page; the
+-- proof is proofs/FitsStill.
 use Prim.Native.Nat.{ℕ, _+_, _-_}
 use mathlib.Core.Path.{_≡_}
 use mathlib.Core.Bool.{Bool, true, false, _&&_, not}
@@ -21,7 +21,7 @@ use Rattle.calls.specs.Fit.{noteFits, fits}
 
 -- Document 01's fit, before E8 ---------------------------------------------------------------------------------------------
 
--- "both marks are those of the walk with the moved words"
+-- "both marks are those of the walk with the moved words" (document 01)
 unfoldable pub marksWere : Command → Marks → Record → Bool
 marksWere c m r =
     eqb (r .marks .incoming) (movedWords (wordsOf (c .transfer) - r .left) c m .incoming)
@@ -57,6 +57,6 @@ fit p r =
 
 -- What is taken over -------------------------------------------------------------------------------------------------------
 
--- a record that fits by document 01's rule of the marks fits by E8's
+-- "Records saved under E7 before the change load unharmed and finish by this rule": one that fits by document 01's rule of the marks fits by E8's
 abbrev pub Unharmed : Type 0
 Unharmed = (p : Plan) (r : Record) → fit p r ≡ true → fits p r ≡ true

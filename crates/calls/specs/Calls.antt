@@ -36,11 +36,12 @@ use Rattle.camac.specs.declared.words.Direction.the-variants.{Incoming, Outgoin
 abbrev pub refusedRecord : Record
 refusedRecord = zeroRecord true
 
--- document 01's numbers of a record, in its order: "ended, instruction, words left, tries made, current N and A, both marks, operations,
--- status, note of the last move"
+-- the number of a yes or no
 abbrev pub numberOf : Bool → ℕ
 numberOf b = if b then 1 else 0
 
+-- document 01's numbers of a record, in its order: "ended, instruction, words left, tries made, current N and A, both marks, operations,
+-- status, note of the last move"
 abbrev pub recordNumbers : Record → List ℕ
 recordNumbers r =
     numberOf (r .ended) ∷ r .spot .instruction ∷ r .left ∷ r .tries ∷ r .position .station ∷ r .position .subaddress
@@ -133,7 +134,7 @@ abbrev pub stepReply : Plan → Option Reply → State → Called
 stepReply p none s = refusedCall (refusal 22) s
 stepReply p (some reply) s = takenCall p (takeAt p reply s)
 
--- "24 ended; 23 record doesn't fit; 22 reply not formed": in the order "24, 23, 22"
+-- "24 ended; 23 record doesn't fit; 22 reply not formed": in the order "then 10 over all fields, 11, 20, 21, 24, 23, 22"
 abbrev pub stepPrepared : Prepared → List ℕ → State → Called
 stepPrepared (unfit r) reply s = refusedCall r s
 stepPrepared (ready p) reply s =
@@ -260,7 +261,8 @@ unfoldable pub liesIn : ℕ → ℕ → Note → Bool
 liesIn buffer end note =
     allOf (leb 1 (note .size) ∷ eqb (note .buffer) buffer ∷ leb (note .offset + note .size) end ∷ [])
 
--- "The last moved word is shown as a part of whichever buffer carried it, or an empty incoming part if none or if the note lies outside"
+-- "The last moved word is shown as a part of whichever buffer carried it", "or an empty incoming part if none or if the note lies
+-- outside"
 unfoldable pub lastMoved : Note → List ℕ → List ℕ → Part
 lastMoved note incoming outgoing =
     if liesIn 0 (length incoming) note then partOf note incoming

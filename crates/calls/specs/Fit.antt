@@ -17,7 +17,7 @@ use Rattle.reply.specs.declared.records.Note.{Note}
 use Rattle.reply.specs.declared.records.Record.{Record}
 use Rattle.qmodes.specs.Modes.{triesFit, positionFits, mostLeft}
 
--- "each mark need only be even and no greater than the old one at its place" (document 02, E8)
+-- "each mark need only be even and no greater than the old one at its place" (E8)
 abbrev pub markFits : ℕ → ℕ → Bool
 markFits mark old = eqb (mark % 2) 0 && leb mark old
 
@@ -63,6 +63,7 @@ fitsFrom limit worst m (v ∷ rest) r = elim (v .instruction) [
   | Halt ↦ false
 ]
 
+-- "A record fits the list"
 unfoldable pub fits : Plan → Record → Bool
 fits p r =
     fitsFrom (p .limit) (worstOver (p .limit) (p .visits)) (marksOver (upTo (r .spot) (p .visits)) noMarks)

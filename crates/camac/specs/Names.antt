@@ -1,5 +1,4 @@
--- The names of the sixteen error codes (document 01, "Sixteen codes have a name table, 001's, for printing"; 001,
--- "Control/Status Register").
+-- The names of the sixteen error codes (the driver manual's "Control/Status Register").
 use Prim.Native.Nat.{ℕ, zero, suc}
 use Prim.Native.Char.{code}
 use Prim.Native.String.{String, [] as empty, _∷_ as _then_}
@@ -32,6 +31,6 @@ filled zero text = []
 filled (suc n) empty = code " " ∷ filled n empty
 filled (suc n) (letter then text) = code letter ∷ filled n text
 
--- sixteen bytes: a code's name; blanks for a code above 15, which has none
+-- "Sixteen codes have a name table, 001's, for printing": a code's name in sixteen bytes; blanks for a code above 15, which has none
 unfoldable pub nameOf : ℕ → List ℕ
 nameOf errorCode = filled 16 (getD names errorCode "")

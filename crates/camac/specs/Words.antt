@@ -40,11 +40,11 @@ qmodeNumbered (suc zero) = Ignore
 qmodeNumbered (suc (suc zero)) = Repeat
 qmodeNumbered (suc (suc (suc k))) = Scan
 
--- sequencer mode: transfer mode 2, where "Q-mode 3 .. is the list sequencer" (E1)
+-- sequencer mode, in transfer mode 2: "Q-mode 3 there is the list sequencer" (E1)
 abbrev pub isSequencerIn : ℕ → Bool
 isSequencerIn first = eqb (modeIn first) 2 && eqb (qmodeBits first) 3
 
--- the list sequencer "goes by ignore mode's rules" (E1)
+-- the list sequencer: "It goes by ignore mode's rules, X = 0 included, and takes one operation a word" (E1)
 abbrev pub qmodeIn : ℕ → QMode
 qmodeIn first = if isSequencerIn first then Ignore else qmodeNumbered (qmodeBits first)
 
@@ -84,8 +84,8 @@ blockWords wide second = if wide then halfwords second / 2 else halfwords second
 
 -- The instruction --------------------------------------------------------------------------------------------------------
 
--- "Transfer mode 0 single (length 4), 1 block (8), 2 enhanced .., 3 inline write (8)"; "Inline: the second longword is the data". Mode 2
--- "is carried with length 8" (E1), with its words counted as a block's.
+-- "Transfer mode 0 single (length 4), 1 block (8), 2 enhanced .., 3 inline write (8)"; "Inline: the second longword is the data".
+-- "Transfer mode 2 is carried with length 8: stop and ignore for reads and writes, repeat for reads" (E1), with its words counted as a block's.
 unfoldable pub transferIn : ℕ → QMode → Address → Bool → ℕ → Transfer
 transferIn zero q a wide second = Single q a
 transferIn (suc zero) q a wide second = Block q a (blockWords wide second)
@@ -123,7 +123,7 @@ wordsOf (Inline q a word) = 1
 abbrev pub directionBy : ℕ → Direction
 directionBy f = if isControl f then Neither else if isWrite f then Outgoing else Incoming
 
--- of the list sequencer "A 0 or 1 reading and 2 or 3 writing"; "A tells the direction there, although F 12 is a control function" (E1)
+-- of the list sequencer "A 0 or 1 reading and 2 or 3 writing" (E1); "A tells the direction there, although F 12 is a control function" (E1)
 abbrev pub directionByA : ℕ → Direction
 directionByA a = if ltb a 2 then Incoming else Outgoing
 
@@ -137,14 +137,14 @@ directionOf (Block q a n) = directionBy (a .function)
 directionOf (Enhanced q a n) = enhancedDirection a
 directionOf (Inline q a word) = Neither
 
--- "1 if enhanced, else 0" (E1)
+-- "The operation wanted next gains a sixth number, 1 if enhanced, else 0" (E1)
 unfoldable pub isEnhanced : Transfer → Bool
 isEnhanced (Single q a) = false
 isEnhanced (Block q a n) = false
 isEnhanced (Enhanced q a n) = true
 isEnhanced (Inline q a word) = false
 
--- "enhanced or standard": a block (E8)
+-- a block, "enhanced or standard" (E8)
 unfoldable pub isBlock : Transfer → Bool
 isBlock (Single q a) = false
 isBlock (Block q a n) = true
@@ -157,14 +157,15 @@ positionOf t = record { station = addressOf t .station; subaddress = addressOf t
 
 -- Refusals ---------------------------------------------------------------------------------------------------------------
 
+-- "the scan clause of 9 doesn't apply to it" (E1): the list sequencer's Q-mode is ignore
 abbrev pub isScanIn : ℕ → Bool
 isScanIn first = isScan (qmodeIn first)
 
--- 6: "a zero bit is set"; "bits 31, 30, 15, 14, 7, 2 zero"
+-- "6: a zero bit is set"; "bits 31, 30, 15, 14, 7, 2 zero"
 abbrev pub zeroBitSet : ℕ → Bool
 zeroBitSet first = bit 31 first || (bit 30 first || (bit 15 first || (bit 14 first || (bit 7 first || bit 2 first))))
 
--- 7: "crate not 1–62; N not 1–23 or 30; Q-mode 3 with N = 30"; it "spares N 30 in sequencer mode" (E1), whose Q-mode is ignore
+-- "7: crate not 1–62; N not 1–23 or 30; Q-mode 3 with N = 30"; it "spares N 30 in sequencer mode" (E1), whose Q-mode is ignore
 abbrev pub badAddress : ℕ → Bool
 badAddress first =
     let a : Address = addressIn first in
@@ -182,7 +183,7 @@ badEnhanced first =
     if isSequencerIn first then not (isSequencerAt (addressIn first))
     else isControl (addressIn first .function) || (eqb (qmodeBits first) 2 && isWrite (addressIn first .function))
 
--- 8: "length not the mode's; block with control; inline not write"
+-- "8: .. length not the mode's; block with control; inline not write"; "8 no longer takes mode 2 as such, but takes in it a length other than 8" (E1)
 abbrev pub badMode : ℕ → ℕ → Bool
 badMode len first =
     not (eqb len (if eqb (modeIn first) 0 then 4 else 8))
@@ -190,11 +191,11 @@ badMode len first =
     || ((eqb (modeIn first) 2 && badEnhanced first)
     || (eqb (modeIn first) 3 && not (isWrite (addressIn first .function)))))
 
--- 9, of a block, enhanced or not: "second longword zero in a block; H above 65,536; H odd for 24-bit"
+-- of a block, enhanced or not, "9: second longword zero in a block; H above 65,536; H odd for 24-bit"
 abbrev pub badCount : Bool → ℕ → Bool
 badCount wide second = eqb second 0 || (ltb 65536 (halfwords second) || (wide && eqb (halfwords second % 2) 1))
 
--- 9, of an inline write: "inline bits above the word size"
+-- of an inline write, "9: .. inline bits above the word size"
 abbrev pub aboveWord : Bool → ℕ → Bool
 aboveWord wide second = leb (if wide then 2 ^ 24 else 2 ^ 16) second
 
@@ -202,7 +203,7 @@ abbrev pub badSecond : ℕ → ℕ → Bool
 badSecond first second =
     (isBlockIn first && badCount (wideIn first) second) || (eqb (modeIn first) 3 && aboveWord (wideIn first) second)
 
--- 9: "scan with n above P"
+-- "9: .. scan with n above P"
 abbrev pub aboveP : Transfer → Bool
 aboveP t = ltb (positions (positionOf t)) (wordsOf t)
 

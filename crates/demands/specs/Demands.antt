@@ -1,4 +1,4 @@
--- Demands kept beside the run (document 02, E2): "Keep up to 2,048, oldest out first". The queue is bytes that the host lends.
+-- Demands kept beside the run (document 02, E2). The queue is bytes that the host lends.
 use Prim.Native.Nat.{ℕ, zero, suc, _+_, _-_, _*_, _%_}
 use mathlib.Core.Bool.{Bool, true, false, _&&_, not}
 use mathlib.Core.List.{List, [], _∷_}
@@ -40,7 +40,7 @@ withWaiting n q = sets q 4098 (shortBytes n)
 abbrev pub withMark : ℕ → List ℕ → List ℕ
 withMark mark q = set q 4100 mark
 
--- 25: "a queue handed in that breaks its layout's limits"
+-- "25 for a queue handed in that breaks its layout's limits"
 unfoldable pub isQueue : List ℕ → Bool
 isQueue q = allOf (eqb (length q) 4101 ∷ ltb (firstIn q) 2048 ∷ leb (waitingNumber q) 2048 ∷ leb (markIn q) 1 ∷ [])
 
@@ -65,7 +65,7 @@ waitingIn q = waitingFrom q (firstIn q) (waitingNumber q)
 
 -- Adding -----------------------------------------------------------------------------------------------------------------
 
--- behind all that wait
+-- "Keep up to 2,048, oldest out first": behind all that wait
 abbrev pub keptBehind : List ℕ → Demand → List ℕ
 keptBehind q d = withWaiting (waitingNumber q + 1) (withDemand (firstIn q + waitingNumber q) d q)
 
@@ -78,7 +78,7 @@ unfoldable pub addedAll : List ℕ → List Demand → List ℕ
 addedAll q [] = q
 addedAll q (d ∷ ds) = addedAll (addedTo q d) ds
 
--- 25: "a demand whose crate isn't 1 to 62"
+-- 25 for "a demand whose crate isn't 1 to 62"
 abbrev pub isCrate : ℕ → Bool
 isCrate c = leb 1 c && leb c 62
 
@@ -93,7 +93,7 @@ demandsIn [] = []
 demandsIn (c ∷ []) = []
 demandsIn (c ∷ s ∷ row) = demandOf c s ∷ demandsIn row
 
--- 25: "or a row of odd length"
+-- 25 for "a row of odd length"
 unfoldable pub isRow : List ℕ → Bool
 isRow row = eqb (length row % 2) 0 && areCrates (demandsIn row)
 
@@ -121,11 +121,11 @@ refusedAnswer = record { refusal = refusal 25; waiting = 0; overflow = false }
 abbrev pub refusing : List ℕ → Outcome
 refusing q = record { queued = refusedAnswer; next = Nothing; queue = q }
 
--- "add": refused for the queue or the crate, 25
+-- adding one: refused for the queue or the crate, 25
 unfoldable pub addOf : List ℕ → Demand → Outcome
 addOf q d = if isQueue q && isCrate (d .«crate_number») then leaving Nothing (addedTo q d) else refusing q
 
--- "add-row": refused for the queue or any part of the row, which is judged whole before a demand of it is added
+-- adding a row: refused for the queue or any part of the row, which is judged whole before a demand of it is added
 unfoldable pub rowOf : List ℕ → List ℕ → Outcome
 rowOf q row = if isQueue q && isRow row then leaving Nothing (addedAll q (demandsIn row)) else refusing q
 

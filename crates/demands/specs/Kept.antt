@@ -1,4 +1,4 @@
--- Document 02, E2: what a queue keeps over every list of calls "from empty". The statement is Kept, last on this page; the proof is proofs/Kept.
+-- What a queue keeps over every list of calls (document 02, E2). The statement is Kept, last on this page; the proof is proofs/Kept.
 use Prim.Native.Nat.{ℕ, _+_}
 use mathlib.Core.Path.{_≡_}
 use mathlib.Core.Bool.{Bool, true, false}
@@ -126,8 +126,8 @@ oldestOf [] = Nothing
 oldestOf (d ∷ ds) = Oldest d
 
 pub record Kept : Type 0 where
-  -- "For every list of add, add-row, take and clear from empty, what was taken and cleared, in order, followed by what still waits, is what accepted adds
-  -- brought less what came with 2,048 waiting"
+  -- "For every list of add, add-row, take and clear from empty": "what was taken and cleared, in order, followed by what still waits, is what accepted
+  -- adds brought less what came with 2,048 waiting"
   pub kept : (cs : List Call) → goneOver empty cs ++ waitingIn (after empty cs) ≡ stayingOver empty cs
   -- "Taking yields nothing exactly when none waits", else the oldest
   pub takes : (cs : List Call) → takeOf (after empty cs) .next ≡ oldestOf (waitingIn (after empty cs))

@@ -1,5 +1,5 @@
--- The calls by numbers, as a host in C is given them (document 01, "A host in C calls admission and the whole run"; start, step and several
--- replies are ours beside them). A record is its thirteen numbers in document 01's order. Admission's numbers are `numbersOf` of the crate walk.
+-- The calls by numbers, as a host in C is given them (admission and the whole run by document 01; start, step and several replies are ours beside
+-- them). A record is its thirteen numbers in document 01's order. Admission's numbers are `numbersOf` of the crate walk.
 use Prim.Native.Nat.{ℕ}
 use mathlib.Core.Bool.{Bool, not, _&&_}
 use mathlib.Core.List.{List, [], _∷_, _++_}
@@ -36,7 +36,7 @@ nextNumbers (Oldest d) = 1 ∷ d .«crate_number» ∷ d .sgl ∷ []
 abbrev pub takenNumbers : Queued → Next → List ℕ
 takenNumbers r next = queuedNumbers r ++ nextNumbers next
 
--- the whole run: number, place, the replies taken, then the record
+-- "A host in C calls admission and the whole run": of it number, place, the replies taken, then the record
 abbrev pub runNumbers : Ran → List ℕ
 runNumbers r = r .refusal .number ∷ r .refusal .place ∷ r .taken ∷ recordNumbers (r .run)
 

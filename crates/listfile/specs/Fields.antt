@@ -29,11 +29,12 @@ bodyLength list at = shortAt list (at + 1)
 abbrev pub nextField : List ℕ → ℕ → ℕ
 nextField list at = at + 3 + bodyLength list at
 
--- where a reader comes to behind the field at an offset: the next field, or the list's end where the field runs past it
+-- "A field reader keeps the list and the offset of the next field together": where it comes to behind the field at an offset, the next field or the
+-- list's end where the field runs past it
 abbrev pub placeAfter : List ℕ → ℕ → ℕ
 placeAfter list at = min (nextField list at) (length list)
 
--- "10h CAMAC instruction", "20h jump", "21h literal longword", "2Fh halt"
+-- "10h .. CAMAC instruction", "20h .. jump", "21h .. literal longword", "2Fh .. halt"
 abbrev pub tagOf : ℕ → Tag
 tagOf byte =
     if eqb byte 0x10 then CamacTag
@@ -52,7 +53,7 @@ firstAt list at = longAt list (at + 3)
 unfoldable pub secondAt : List ℕ → ℕ → ℕ
 secondAt list at = if eqb (bodyLength list at) 8 then longAt list (at + 7) else 0
 
--- 3: "unknown tag, or 01h again"
+-- "3: unknown tag, or 01h again"
 abbrev pub isUnknown : Tag → Bool
 isUnknown CamacTag = false
 isUnknown JumpTag = false
@@ -60,7 +61,7 @@ isUnknown LiteralTag = false
 isUnknown HaltTag = false
 isUnknown UnknownTag = true
 
--- 4: "length wrong for its tag", by the table of "The list file"
+-- "4: length wrong for its tag", by the table
 abbrev pub wrongLength : Tag → ℕ → Bool
 wrongLength CamacTag len = not (eqb len 4 || eqb len 8)
 wrongLength JumpTag len = not (eqb len 2)
@@ -68,7 +69,7 @@ wrongLength LiteralTag len = not (eqb len 4)
 wrongLength HaltTag len = not (eqb len 0)
 wrongLength UnknownTag len = true
 
--- 1, 5, 3 and 4, in the order listed; 2 is the first field's
+-- "1: a field's head or body runs past the end", "5: instruction 4,097", 3 and 4, in the order listed; 2 is the first field's
 abbrev pub headChecks : List ℕ → ℕ → ℕ → List Check
 headChecks list at count =
     ltb (length list) (at + 3) gives 1
@@ -86,12 +87,12 @@ abbrev pub carriedBy : Decoded → FieldRead
 carriedBy (Carried c) = Read (Camac c)
 carriedBy (camac.Refused number) = Refused number
 
--- document 01's number of a decode's answer, 0 where it is not refused
+-- "a definition gives this paper's number and values for each case": the number of a decode's answer, 0 where it is not refused
 abbrev pub numberIn : Decoded → ℕ
 numberIn (Carried c) = 0
 numberIn (camac.Refused number) = number
 
--- a field's body by its tag: the instruction, or 6 to 9
+-- a field's body by its tag: the instruction, "jump: number of the target instruction" among them, or 6 to 9
 unfoldable pub bodyOf : Tag → List ℕ → ℕ → FieldRead
 bodyOf CamacTag list at = carriedBy (decodeOf (bodyLength list at) (firstAt list at) (secondAt list at))
 bodyOf JumpTag list at = Read (Jump (shortAt list (at + 3)))
@@ -107,16 +108,16 @@ afterHead (suc number) body = Refused (suc number)
 unfoldable pub fieldOf : List ℕ → ℕ → ℕ → FieldRead
 fieldOf list at count = afterHead (headFault list at count) (bodyOf (tagAt list at) list at)
 
--- document 01's number of a field's answer, 0 where it is not refused
+-- "a definition gives this paper's number and values for each case": the number of a field's answer, 0 where it is not refused
 abbrev pub numberOf : FieldRead → ℕ
 numberOf (Read i) = 0
 numberOf (Refused number) = number
 
--- "01h", "format 1, a zero byte"
+-- "01h .. format 1, a zero byte .. First field, once"
 abbrev pub isFirst : List ℕ → Bool
 isFirst list = eqb (byteAt list 0) 1 && eqb (byteAt list 3) 1 && eqb (byteAt list 4) 0
 
--- 1 of the first field, and 2: "no field, or the first isn't as in the table", length "4", "R (two bytes, 1 to 65,535)"
+-- 1 of the first field, and "2: no field, or the first isn't as in the table": of length 4, with "R (two bytes, 1 to 65,535)"
 abbrev pub firstChecks : List ℕ → List Check
 firstChecks list =
     eqb (length list) 0 gives 2
@@ -150,14 +151,15 @@ abbrev pub joined : ℕ → FieldRead → Fields → Fields
 joined at (Read i) rest = ahead (record { place = at; instruction = i }) rest
 joined at (Refused number) rest = faulty (record { number = number; place = at })
 
--- "Fields go front to back": those from `at` on. A field is at least three bytes, so that fuel for each byte suffices.
+-- "Fields go front to back", and "Unreached fields are checked too": those from `at` on. A field is at least three bytes, so that fuel for each byte
+-- suffices.
 unfoldable pub fieldsFrom : ℕ → List ℕ → ℕ → ℕ → Fields
 fieldsFrom zero list at count = faulty (record { number = 1; place = at })
 fieldsFrom (suc fuel) list at count =
     if leb (length list) at then fields []
     else joined at (fieldOf list at count) (fieldsFrom fuel list (nextField list at) (count + 1))
 
--- 10: "jump target not an instruction"
+-- "10: jump target not an instruction"
 abbrev pub badTarget : ℕ → Instruction → Bool
 badTarget count (Camac c) = false
 badTarget count (Jump target) = leb count target
@@ -169,7 +171,7 @@ unfoldable pub firstBadJump : ℕ → List Field → Option ℕ
 firstBadJump count [] = none
 firstBadJump count (f ∷ fs) = if badTarget count (f .instruction) then some (f .place) else firstBadJump count fs
 
--- a list that passes 1 to 10: "R is the try limit"; "Instructions are the fields after the first, numbered from 0"
+-- a list that passes 1 to 10: "Instructions are the fields after the first, numbered from 0, at most 4,096. R is the try limit."
 pub record Program : Type 0 where
   pub limit : ℕ
   pub fields : List Field

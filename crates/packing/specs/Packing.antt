@@ -8,11 +8,13 @@ use Rattle.base.specs.Bytes.{shortBytes, longBytes}
 use Rattle.base.specs.Checks.{if_then_else_}
 
 -- "If the mark modulo 4 is 2, two zero bytes come first": before a 24-bit word or a literal. "The fill mark is always even, so the aligned mark
--- is mark + mark modulo 4" (E3): for an even mark these are the same, pad-as-before in proofs/MarkFacts
+-- is mark + mark modulo 4" (E3). "The pad bytes and every answer are as before" (E3): for an even mark these are the same, pad-as-before in
+-- proofs/MarkFacts
 unfoldable pub padAt : Bool → ℕ → ℕ
 padAt wide mark = if wide then mark % 4 else 0
 
--- where the word itself goes, behind its pad
+-- where the word itself goes, behind its pad: "the least multiple of 4 not below an even mark" (E3), computed so that "no branch in packing may
+-- depend on the mark's remainder" (E3)
 unfoldable pub alignedMark : Bool → ℕ → ℕ
 alignedMark wide mark = mark + padAt wide mark
 
@@ -20,7 +22,7 @@ alignedMark wide mark = mark + padAt wide mark
 unfoldable pub widthOf : Bool → ℕ
 widthOf wide = if wide then 4 else 2
 
--- the fill mark after one word
+-- the fill mark after one word: "each has a fill mark, the bytes used so far"; "No pad follows the last word"
 unfoldable pub markAfter : Bool → ℕ → ℕ
 markAfter wide mark = alignedMark wide mark + widthOf wide
 
@@ -29,7 +31,7 @@ unfoldable pub markAfterWords : Bool → ℕ → ℕ → ℕ
 markAfterWords wide zero mark = mark
 markAfterWords wide (suc n) mark = markAfter wide (markAfterWords wide n mark)
 
--- "low byte first": the four bytes of a longword, or the two of its low 16 bits
+-- "low byte first; it is the low 16 bits of the data": the four bytes of a longword, or the two of its low 16 bits
 abbrev pub bytesOf : Bool → ℕ → List ℕ
 bytesOf true v = longBytes v
 bytesOf false v = shortBytes v

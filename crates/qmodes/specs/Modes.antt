@@ -29,8 +29,8 @@ done Ignore a = true
 done Repeat a = a .q
 done Scan a = a .q && a .x
 
--- "A word not done is tried again"; a stop block "finishes without moving that word" (document 02, E8), so that none is left of it. A single
--- or inline word not done in stop is a cause: nothing looks at the value for it.
+-- "A word not done is tried again with the same data"; "A stop block, enhanced or standard, now finishes without moving that word, read or write" (E8),
+-- so that none is left of it. A single or inline word not done in stop is a cause: nothing looks at the value for it.
 abbrev pub leftUndone : QMode → ℕ → ℕ
 leftUndone Stop left = 0
 leftUndone Ignore left = left
@@ -42,7 +42,7 @@ leftAfter q isDone left = if isDone then left - 1 else leftUndone q left
 
 -- Which answers end the run ------------------------------------------------------------------------------------------------
 
--- "repeat, Q = 0 on try R of this word"
+-- "repeat, Q = 0 on try R of this word, Bh"
 abbrev pub spent : ℕ → QMode → Answer → ℕ → Bool
 spent limit Stop a tries = false
 spent limit Ignore a tries = false
@@ -58,28 +58,28 @@ ranOff RanOff = true
 unfoldable pub leaves : Answer → ScanPosition → ℕ → Bool
 leaves a p left = ranOff (afterAnswer (done Scan a) p) && not (eqb (leftAfter Scan (done Scan a) left) 0)
 
--- "scan leaving station 23"
+-- "scan leaving station 23, 9"
 abbrev pub scanLeaves : QMode → Answer → ScanPosition → ℕ → Bool
 scanLeaves Stop a p left = false
 scanLeaves Ignore a p left = false
 scanLeaves Repeat a p left = false
 scanLeaves Scan a p left = leaves a p left
 
--- "X = 0 with AD = 0, not in scan"
+-- "X = 0 with AD = 0, not in scan, 8"
 abbrev pub noX : QMode → Bool → Answer → Bool
 noX Stop ad a = not (a .x) && not ad
 noX Ignore ad a = not (a .x) && not ad
 noX Repeat ad a = not (a .x) && not ad
 noX Scan ad a = false
 
--- "Q = 0 in stop", where "Singles and inline writes still end with 7" (E8)
+-- "Q = 0 in stop, 7", where "Singles and inline writes still end with 7" (E8)
 abbrev pub noQInStop : QMode → Bool → Answer → Bool
 noQInStop Stop isBlock a = not (a .q) && not isBlock
 noQInStop Ignore isBlock a = false
 noQInStop Repeat isBlock a = false
 noQInStop Scan isBlock a = false
 
--- "Q = 0 closes a block" (E8): in stop, "unless another cause ends it"
+-- "Q = 0 closes a block" (E8): in stop, where "the list goes on unless another cause ends it; bit 16 is set" (E8)
 abbrev pub closes : QMode → Bool → Answer → Bool
 closes Stop isBlock a = not (a .q) && isBlock
 closes Ignore isBlock a = false
@@ -88,7 +88,7 @@ closes Scan isBlock a = false
 
 -- What changes after an answer ---------------------------------------------------------------------------------------------
 
--- "A word not done is tried again"; "Tries are counted per word", in repeat
+-- "Tries are counted per word", in repeat
 unfoldable pub triesAfter : QMode → Bool → ℕ → ℕ
 triesAfter Stop isDone tries = 0
 triesAfter Ignore isDone tries = 0
@@ -136,8 +136,8 @@ worstWords limit Ignore p n = n
 worstWords limit Repeat p n = n * limit
 worstWords limit Scan p n = min (positions p) (n - 1 + stations p)
 
--- "Most still possible: the same sums over the words left and the walk after them, less the tries made, with P and S of the current N
--- and A; where a scan has more words left than positions, its positions and nothing after it." `rest` is the sum over the walk after.
+-- Most still possible: "the same sums over the words left and the walk after them, less the tries made", "with P and S of the current N and
+-- A"; "where a scan has more words left than positions, its positions and nothing after it". `rest` is the sum over the walk after.
 unfoldable pub mostLeft : ℕ → QMode → ScanPosition → ℕ → ℕ → ℕ → ℕ
 mostLeft limit Stop p left tries rest = left + rest
 mostLeft limit Ignore p left tries rest = left + rest

@@ -28,11 +28,11 @@ closedBy t Timeout = false
 closedBy t NotRecognised = false
 closedBy t NoSync = false
 
--- "TPE or LPE with AD = 0"
+-- "TPE or LPE with AD = 0, Ah"
 abbrev pub parityError : Bool → Answer → Bool
 parityError ad a = (a .tpe || a .lpe) && not ad
 
--- E4: "ERR with X = 1 and AD = 0 ends the run with code 4, in scan as well"
+-- "ERR with X = 1 and AD = 0 ends the run with code 4, in scan as well, and moves no word" (E4); with X = 0 or AD = 1 still "ERR alone ends nothing"
 abbrev pub damaged : Bool → Answer → Bool
 damaged ad a = (a .err && a .x) && not ad
 

@@ -97,7 +97,7 @@ withMarks m r = record {
   note = r .note;
 }
 
--- "21h: literal longword for the incoming buffer"; the note: "literals .. don't touch it"
+-- "21h .. literal longword for the incoming buffer"; the note: "literals, inline and control don't touch it"
 unfoldable pub putLiteral : ℕ → State → State
 putLiteral v s = record {
   run = withMarks (movedBy Incoming true (s .run .marks)) (s .run);
@@ -118,16 +118,16 @@ runOn (v ∷ vs) s = elim (v .instruction) [
 
 -- One word ---------------------------------------------------------------------------------------------------------------
 
--- the longword that a read's word is stored as, of which a 16-bit word is the low half: "bit 31 becomes Q and bit 30 X; bits 29–24 stay
--- zero" (document 02, E9). Kinds 1 to 3 "have every other byte zero".
+-- the longword that a read's word is stored as, of which a 16-bit word is the low half: "When a read's 24-bit word is stored, bit 31 becomes Q and
+-- bit 30 X; bits 29–24 stay zero" (E9); "Literals and 16-bit words don't change" (E9). Kinds 1 to 3 "have every other byte zero".
 abbrev pub longwordOf : Reply → ℕ
 longwordOf (Answered a) = a .word % 2 ^ 24 + (if a .x then 2 ^ 30 else 0) + (if a .q then 2 ^ 31 else 0)
 longwordOf Timeout = 0
 longwordOf NotRecognised = 0
 longwordOf NoSync = 0
 
--- "The note is the buffer (0 incoming, 1 outgoing), offset and length of the last read or block or single write word moved"; "inline
--- and control don't touch it"
+-- "The note is the buffer (0 incoming, 1 outgoing), offset and length of the last read or block or single write word moved";
+-- "literals, inline and control don't touch it"
 abbrev pub noteAfter : Direction → Bool → Record → Note
 noteAfter Incoming wide r = record { buffer = 0; offset = alignedMark wide (r .marks .incoming); size = widthOf wide }
 noteAfter Outgoing wide r = record { buffer = 1; offset = alignedMark wide (r .marks .outgoing); size = widthOf wide }
@@ -147,7 +147,7 @@ movedRecord c r = record {
   note = noteAfter (directionOf (c .transfer)) (c .wide) r;
 }
 
--- the incoming buffer after one word moved, by its mark before
+-- the incoming buffer after one word moved, by its mark before; to the outgoing one "nothing is written"
 abbrev pub storedBy : Direction → Bool → ℕ → ℕ → List ℕ → List ℕ
 storedBy Incoming wide word mark buffer = stored wide word mark buffer
 storedBy Outgoing wide word mark buffer = buffer
@@ -179,7 +179,7 @@ counted limit c reply r = record {
   note = r .note;
 }
 
--- the record that waits on at the same instruction
+-- "A word not done is tried again with the same data": the record that waits on at the same instruction
 unfoldable pub waiting : ℕ → ℕ → ScanPosition → Record → Record
 waiting left tries p r = record {
   ended = false;
@@ -193,8 +193,8 @@ waiting left tries p r = record {
   note = r .note;
 }
 
--- no cause: the word, if done, is moved; "After word n the next instruction follows", and after a block that is closed: it "continues at the
--- marks reached, padding from there" (E8)
+-- no cause: the word, if done, is moved; "After word n the next instruction follows", and after a block that is closed:
+-- "The next instruction continues at the marks reached, padding from there" (E8)
 unfoldable pub goOn : List Visit → Command → Bool → ℕ → State → State
 goOn rest c isDone word s =
     let s₁ : State = if isDone then moveWord c word s else s in
@@ -202,8 +202,8 @@ goOn rest c isDone word s =
     if eqb left 0 then runOn rest s₁
     else withRun (waiting left (triesAfter (qmodeOf (c .transfer)) isDone (s .run .tries)) (positionAfter (qmodeOf (c .transfer)) isDone (s .run .position)) (s₁ .run)) s₁
 
--- "A reply that ends the run so moves no word, except that a word done at the scan's last position, with 9 as the only cause, is moved
--- first." "The greatest code wins."
+-- "A reply that ends the run so moves no word", "except that a word done at the scan's last position, with 9 as the only cause, is moved
+-- first". "The greatest code wins."
 unfoldable pub byCauses : List ℕ → List Visit → Command → Bool → ℕ → State → State
 byCauses [] rest c isDone word s = goOn rest c isDone word s
 byCauses (code ∷ codes) rest c isDone word s =

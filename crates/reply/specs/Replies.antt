@@ -47,7 +47,7 @@ hasForm bytes = allOf (
     ∷ (eqb (byteAt bytes 0) 0 || othersZero bytes)
     ∷ [])
 
--- the reply that bytes are; none where they are "not formed as above"
+-- the reply that bytes are; none for a "reply not formed as above"
 unfoldable pub replyOf : List ℕ → Option Reply
 replyOf bytes = if hasForm bytes then ofKind (byteAt bytes 0) (answerIn bytes) else none
 

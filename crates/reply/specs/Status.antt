@@ -24,7 +24,7 @@ abbrev pub bitsOf : List StatusBit → ℕ
 bitsOf [] = 0
 bitsOf (b ∷ bs) = bitOr (if b .isSet then b .value else 0) (bitsOf bs)
 
--- "26 DERR; 25 timeout or tries spent; 24 no sync; 23 ERR; 22 scan left station 23, even under a greater code; 21 LPE; 20 TPE;
+-- "26 DERR; 25 timeout or tries spent; 24 no sync; 23 ERR; 22 scan left station 23, even under a greater code"; "21 LPE; 20 TPE;
 -- 19 not recognised; 18 TPE, LPE or ERR; 17 X = 0; 16 Q = 0"
 unfoldable pub flagsOf : ℕ → Command → Record → Reply → ℕ
 flagsOf limit c r NoSync = 2 ^ 24

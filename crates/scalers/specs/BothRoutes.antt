@@ -1,5 +1,5 @@
--- Document 02, E10: "For a row that passes, both routes return the original row, and a single call equals converting each longword". The statement is
--- BothRoutes, last on this page; the proof is proofs/BothRoutes.
+-- What both ways leave, and what single longwords do (document 02, E10). The statement is BothRoutes, last on this page; the proof is
+-- proofs/BothRoutes.
 use Prim.Native.Nat.{ℕ}
 use mathlib.Core.Path.{_≡_}
 use mathlib.Core.List.{List, [], _∷_, _++_}
@@ -37,7 +37,7 @@ eachConverted way (a ∷ b ∷ c ∷ d ∷ row) = convertOf way (a ∷ b ∷ c �
 pub record Returned (way : Way) (row : List ℕ) : Type 0 where
   -- the converted row passes on the way back
   pub back-passes : RowPasses (back way) (convertOf way row .row)
-  -- "both routes return the original row"
+  -- "For a row that passes, both routes return the original row"
   pub back-row : convertOf (back way) (convertOf way row .row) .row ≡ row
   -- "a single call equals converting each longword"
   pub each-passes : EachPasses way row

@@ -53,7 +53,7 @@ convertedTo ToDecimal w = keptOf w + number 16 (decimalsIn w)
 abbrev pub isHighSet : ℕ → Bool
 isHighSet w = not (eqb (bits 29 24 w) 0)
 
--- 32: "bits 29–24 set, a digit above 9 on the way to binary, or a value above 999,999 on the way back"
+-- 32 "for bits 29–24 set, a digit above 9 on the way to binary, or a value above 999,999 on the way back"
 unfoldable pub isBad : Way → ℕ → Bool
 isBad ToBinary w = isHighSet w || anyAbove9 (packedIn w)
 isBad ToDecimal w = isHighSet w || ltb 999999 (bits 23 0 w)
@@ -73,18 +73,18 @@ unfoldable pub rowOf : List ℕ → List ℕ
 rowOf [] = []
 rowOf (w ∷ ws) = longBytes w ++ rowOf ws
 
--- "the first such longword's byte offset in the row", from an offset on
+-- "with the first such longword's byte offset in the row", from an offset on
 unfoldable pub checkedFrom : Way → ℕ → List ℕ → Checked
 checkedFrom way at [] = Passes
 checkedFrom way at (w ∷ ws) = if isBad way w then Bad at else checkedFrom way (at + 4) ws
 
--- "Convert a row of stored longwords": each of them
+-- "Convert a row of stored longwords, lent as a part of the buffer": each of them
 unfoldable pub convertedRow : Way → List ℕ → List ℕ
 convertedRow way row = rowOf (map (convertedTo way) (longwordsIn row))
 
 -- The calls --------------------------------------------------------------------------------------------------------------
 
--- what a call answers, and the row after it
+-- what a call answers, and the row after it: "The rest of the buffer keeps its bytes", since the call is lent the row alone
 pub record Outcome : Type 0 where
   pub refusal : Refusal
   pub row : List ℕ

@@ -1,4 +1,4 @@
--- A step with its record lent (document 01, "The record is lent to the step and holds the new state afterwards").
+-- A step with its record lent.
 use mathlib.Core.Path.{_≡_}
 use mathlib.Core.List.{List}
 use Prim.Native.Nat.{ℕ}
@@ -10,7 +10,8 @@ use Rattle.step.specs.declared.Answered.{Answered}
 abbrev pub answerOf : Called → Answered
 answerOf x = record { refusal = x .refusal; wanted = x .wanted }
 
--- a step is answered as it is defined: its answer, and the lent record and buffers at its exit
+-- "The record is lent to the step and holds the new state afterwards": a step is answered as it is defined, its answer, and the lent record and
+-- buffers at its exit
 pub record Leaves (called : Called) (y : Answered) (r : Record) (incoming outgoing : List ℕ) : Type 0 where
   pub answer : y ≡ answerOf called
   pub run : r ≡ called .state .run

@@ -21,7 +21,7 @@ pub data Prepared : Type 0 where
   unfit : Refusal → Prepared
   ready : Plan → Prepared
 
--- 11: "the walk repeats or passes the last field"
+-- "11 (place 0): the walk repeats or passes the last field"
 abbrev pub afterWalk : ℕ → Option (List Visit) → Prepared
 afterWalk limit none = unfit (record { number = 11; place = 0 })
 afterWalk limit (some vs) = ready (record { limit = limit; visits = vs })
@@ -63,7 +63,8 @@ admissionOf (ready p) = Admitted (countsOf p)
 unfoldable pub admitOf : List ℕ → ℕ → ℕ → Admission
 admitOf list incoming outgoing = admissionOf (prepare list incoming outgoing)
 
--- the numbers of an answer: "A refusal yields number, place and zeros"; not refused, number and place are 0; then W, B, O
+-- "If an answer is an enum, a definition gives this paper's number and values for each case". "A refusal yields number, place and zeros"; not
+-- refused, number and place are 0; then W, B, O
 abbrev pub numbersOf : Admission → List ℕ
 numbersOf (Refused r) = r .number ∷ r .place ∷ 0 ∷ 0 ∷ 0 ∷ []
 numbersOf (Admitted c) = 0 ∷ 0 ∷ c .worst ∷ c .incoming ∷ c .outgoing ∷ []

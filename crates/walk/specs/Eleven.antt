@@ -1,4 +1,4 @@
--- Refusal 11 in its own words: "the walk repeats or passes the last field". Statement; the proof is proofs/Eleven.
+-- Refusal 11 in its own words. The statement is RefusalEleven, last on this page; the proof is proofs/Eleven.
 use Prim.Native.Nat.{ℕ, suc}
 use mathlib.Core.Path.{_≡_}
 use mathlib.Core.Logic.{_⊎_, _↔_}
@@ -27,5 +27,6 @@ pub record Repeats (fs : List Field) : Type 0 where
   pub leads : Leads fs firstSpot at visits
   pub again : Leads fs at at (suc around)
 
+-- "11 (place 0): the walk repeats or passes the last field", and for no other reason
 abbrev pub RefusalEleven : Type 0
 RefusalEleven = (fs : List Field) → (walkOf fs ≡ none) ↔ (PassesLastField fs ⊎ Repeats fs)

@@ -1,5 +1,5 @@
--- What a run reads of a CAMAC instruction: its Q-mode, whether it is a block, words wanted, direction, N and A, word size, AD (document 02, E1: "Counts, packing and
--- endings are those of standard blocks, proved over both kinds together"). Only the operation wanted, calls/specs/Calls:operationOf, reads more:
+-- What a run reads of a CAMAC instruction: its Q-mode, whether it is a block, words wanted, direction, N and A, word size, AD (document 02,
+-- E1). Only the operation wanted, calls/specs/Calls:operationOf, reads more:
 -- crate, function, the data of an inline write and whether it is enhanced. The statement is Kinds, last on this page; the proof is proofs/Alike.
 use Prim.Native.Nat.{ℕ}
 use mathlib.Core.Path.{_≡_}
@@ -73,8 +73,9 @@ plainAddress a = record {
   function = if ltb (a .subaddress) 2 then 0 else 16;
 }
 
--- instructions that are alike run the same; an enhanced block is alike to the standard block with its Q-mode, address and words, and the list
--- sequencer to the standard block in ignore that reads or writes
+-- "Counts, packing and endings are those of standard blocks, proved over both kinds together": instructions that are alike run the same; an enhanced
+-- block is alike to the standard block with its Q-mode, address and words, and the list sequencer to the standard block in ignore that reads or
+-- writes
 pub record Kinds : Type 0 where
   pub same : (c d : Command) → Alike c d → SameRun c d
   pub enhanced : (q : QMode) (a : Address) (n : ℕ) (wide ad : Bool) → isControl (a .function) ≡ false

@@ -1,4 +1,4 @@
--- The packing after a short block (document 02, E8: "The next instruction continues at the marks reached, padding from there"): after a block that
+-- The packing after a short block (document 02, E8): after a block that
 -- is closed every word lies where it would lie had the block been declared that short. The statement is ShortBlocks, last on this page; the
 -- proof is proofs/ShortBlocks.
 use Prim.Native.Nat.{ℕ, zero, suc, _-_}
@@ -91,8 +91,8 @@ pub data Shortened (incoming outgoing : List ℕ) : Plan → List Reply → Plan
   one-more : {p q : Plan} {xs ys : List Reply} (b : ShortBlock p incoming outgoing xs)
       → Shortened incoming outgoing (declared b) (b .earlier ++ b .later) q ys → Shortened incoming outgoing p xs q ys
 
--- every run over the walk of an admitted list leaves the bytes, marks and note of the run over the walk whose closed blocks ask for just the
--- words that were moved
+-- "The next instruction continues at the marks reached, padding from there": every run over the walk of an admitted list leaves the bytes, marks and
+-- note of the run over the walk whose closed blocks ask for just the words that were moved
 abbrev pub ShortBlocks : Type 0
 ShortBlocks =
     (list incoming outgoing : List ℕ) (p q : Plan) (xs ys : List Reply) → Bytes list → prepare list (length incoming) (length outgoing) ≡ ready p

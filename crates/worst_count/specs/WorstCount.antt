@@ -1,5 +1,5 @@
--- Demand 3 (document 01, "Worst count"): the worst count that admission reports is the true maximum. "Demand 3 is one statement about a whole
--- sequence of steps; statements about each call don't replace it." It is WorstCount, last on this page; the proof is proofs/Bound.
+-- Demand 3 (document 01, "Worst count"): the worst count that admission reports is the true maximum. The statement is WorstCount, last on this page;
+-- the proof is proofs/Bound.
 use Prim.Native.Nat.{ℕ, suc, _≤_}
 use mathlib.Core.Path.{_≡_}
 use mathlib.Core.Bool.{Bool, true, false}
@@ -49,8 +49,8 @@ abbrev pub leaves : State → Lent → Lent → State → State
 leaves s i o x = record { run = x .run; incoming = keptBy i (s .incoming) (x .incoming); outgoing = keptBy o (s .outgoing) (x .outgoing) }
 
 -- A sequence of steps from a state, with the replies that were taken, in time order, to a state; each step finds record and buffers as the one
--- before left them. "Beside the record, each step of the sequence is given that list, the two buffers and any bytes as its reply; a step that
--- is refused may have been given another list or other buffers. A reply is taken when its step isn't refused."
+-- before left them. "each step of the sequence is given that list, the two buffers and any bytes as its reply"; "a step that is refused may have
+-- been given another list or other buffers". "A reply is taken when its step isn't refused."
 pub data Calls (list : List ℕ) : State → List (List ℕ) → State → Type 0 where
   no-call : {s : State} → Calls list s [] s
   taken : {s end : State} {replies : List (List ℕ)} (reply : List ℕ) → stepOf list s reply .refusal .number ≡ 0
@@ -109,12 +109,12 @@ startState list incoming outgoing = startOf list incoming outgoing .state
 
 -- What holds after every sequence of steps. "The operation and byte counts are the W and B that admission reported for this list": c has them.
 pub record Holds (list incoming outgoing : List ℕ) (c : Counts) (replies : List (List ℕ)) (s : State) : Type 0 where
-  -- "Operations made are the replies taken since the start": "never more than W operations, W operations only when ended"
+  -- "Operations made are the replies taken since the start": "never more than W operations, W operations only when ended" (demand 3)
   pub within : length replies ≤ c .worst
   pub last : length replies ≡ c .worst → s .run .ended ≡ true
   -- "and after every sequence the record's number of operations equals them"
   pub count : s .run .operations ≡ length replies
-  -- "refused calls alter nothing": record and buffers are those that the taken replies alone lead to
+  -- "refused calls alter nothing" (demand 3): record and buffers are those that the taken replies alone lead to
   pub unaltered : s ≡ afterReplies list (startState list incoming outgoing) replies
   -- nor does a refused call alter another buffer that it was lent
   pub kept : (list′ : List ℕ) (i o : Lent) (reply : List ℕ) (number : ℕ) → stepOf list′ (finds s i o) reply .refusal .number ≡ suc number
@@ -126,11 +126,11 @@ pub record Holds (list incoming outgoing : List ℕ) (c : Counts) (replies : Lis
   pub plan : Plan
   pub prepared : prepare list (length incoming) (length outgoing) ≡ ready plan
   pub ending : Ended list plan (startState list incoming outgoing) replies s
-  -- "no byte at or beyond B changes"; "start's own writes are among those judged against B"
+  -- "no byte at or beyond B changes" (demand 3); "start's own writes are among those judged against B"
   pub beyond : (i : ℕ) → c .incoming ≤ i → getD (s .incoming) i 0 ≡ getD incoming i 0
   pub same-length : length (s .incoming) ≡ length incoming
   pub same-outgoing : s .outgoing ≡ outgoing
-  -- "B and O become the most that can be stored and taken; no reply list passes them" (document 02, E8)
+  -- "B and O become the most that can be stored and taken; no reply list passes them" (E8)
   pub marks-in : s .run .marks .incoming ≤ c .incoming
   pub marks-out : s .run .marks .outgoing ≤ c .outgoing
 
@@ -146,8 +146,8 @@ NoneCloses p list s (reply ∷ replies) =
     ((c : Command) (x : Reply) (rest : List Visit) → WaitsAt p (s .run) c rest → replyOf reply ≡ some x → closedBy (c .transfer) x ≡ false)
     × NoneCloses p list (stepOf list s reply .state) replies
 
--- "some sequence attains W with code 0 and the mark at B", and the outgoing mark at O; none of its steps is refused. It is a run "without short
--- blocks" (E8): code 0 at W operations does not say so, for the last reply may close the last block.
+-- "some sequence attains W with code 0 and the mark at B" (demand 3), and the outgoing mark at O; none of its steps is refused. It is "some run without
+-- short blocks" (E8): code 0 at W operations does not say so, for the last reply may close the last block.
 pub record Attained (list : List ℕ) (start : State) (c : Counts) : Type 0 where
   pub replies : List (List ℕ)
   pub plan : Plan
@@ -160,8 +160,9 @@ pub record Attained (list : List ℕ) (start : State) (c : Counts) : Type 0 wher
   pub mark-in : afterReplies list start replies .run .marks .incoming ≡ c .incoming
   pub mark-out : afterReplies list start replies .run .marks .outgoing ≡ c .outgoing
 
--- "A list is admitted with two buffer lengths when no refusal up to 21 .. applies to them." "Over every sequence of steps from every start of
--- every admitted list": start is not refused, every sequence of steps from it holds, and one attains W.
+-- "Demand 3 is one statement about a whole sequence of steps; statements about each call don't replace it." "Over every sequence of steps from every
+-- start of every admitted list" (demand 3): start is not refused, every sequence of steps from it holds, and one attains W. "The bound and its
+-- reachability hold for lists that hold either" (E1): enhanced and standard blocks.
 abbrev pub WorstCount : Type 0
 WorstCount =
     (list incoming outgoing : List ℕ) (c : Counts) → Bytes list

@@ -67,10 +67,26 @@ fn pairs(text: &str) -> Result<Vec<Pair>, String> {
     }
 }
 
-pub fn read(path: &Path) -> Result<Edit, String> {
+fn edit(path: &Path, text: &str) -> Result<Edit, String> {
     let label = files::stem(path);
-    let pairs = pairs(&files::read(path)?).map_err(|why| format!("{label}: {why}"))?;
+    let pairs = pairs(text).map_err(|why| format!("{label}: {why}"))?;
     Ok(Edit { label, pairs })
+}
+
+pub fn read(path: &Path) -> Result<Edit, String> {
+    edit(path, &files::read(path)?)
+}
+
+/// An edit as `rt` reads it: lines without a key are remarks.
+pub fn read_with_remarks(path: &Path) -> Result<Edit, String> {
+    let text = files::read(path)?;
+    let has_key = |line: &&str| {
+        ["file:", "old:", "new:"]
+            .iter()
+            .any(|key| line.starts_with(key))
+    };
+    let lines: Vec<&str> = text.lines().filter(has_key).collect();
+    edit(path, &lines.join("\n"))
 }
 
 fn replaced(text: &str, pair: &Pair) -> Result<String, String> {

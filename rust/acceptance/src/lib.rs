@@ -7,10 +7,15 @@
 //! that the theorems of the crates `worst_count`, `scalers` and `demands` are about; they are
 //! tried where there is no code, so that only these, and the laws that they cite, can refuse
 //! them. The program `mutations` makes small changes of its own in every function.
+//!
+//! The documents are held to the tree: the names that they cite (`reading`), the words that
+//! they and the definitions quote (`quotations`), the tables that are printed into them
+//! (`printed`, of `tables` and `sizes`).
 
 #![forbid(unsafe_code)]
 
 pub mod changes;
+pub mod code;
 pub mod definitions;
 pub mod edit;
 pub mod files;
@@ -19,9 +24,14 @@ pub mod jobs;
 pub mod must_fail;
 pub mod mutations;
 pub mod needs;
+pub mod pages;
+pub mod printed;
+pub mod quotations;
 pub mod reading;
 pub mod refit;
 pub mod repository;
+pub mod sizes;
+pub mod tables;
 pub mod trial;
 pub mod types;
 pub mod verdict;

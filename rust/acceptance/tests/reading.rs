@@ -1,6 +1,7 @@
-//! What the documents cite exists, and no row of READING.md's tables lacks a cell.
+//! What the documents cite exists; READING.md's tables are those that the definitions, the
+//! contracts and the edits give, and none of its rows lacks a cell.
 
-use acceptance::{files, reading, repository};
+use acceptance::{files, printed, reading, repository};
 
 const DOCUMENTS: [&str; 6] = [
     "docs/READING.md",
@@ -32,4 +33,18 @@ fn no_cell_is_empty() {
     let text = files::read(&path).expect("READING.md");
     let faults = reading::table_faults(&text);
     assert!(faults.is_empty(), "\n{}", faults.join("\n"));
+}
+
+#[test]
+fn tables_are_as_printed() {
+    let (stored, printed) = printed::RULES
+        .both(&repository::root())
+        .expect("READING.md");
+    let differs = |lines: &(&str, &str)| lines.0 != lines.1;
+    let first = stored.lines().zip(printed.lines()).find(differs);
+    let command = "cargo run --release --manifest-path rust/Cargo.toml -p acceptance --bin tables";
+    assert!(
+        stored == printed,
+        "docs/READING.md is not as `{command}` prints it: {first:#?}"
+    );
 }

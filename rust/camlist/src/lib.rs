@@ -1,3 +1,5 @@
+// First, so that the example below is left out without the library, too.
+#![cfg(library)]
 //! The proved crate list engine for hosts in Rust: safe calls over its static library.
 //!
 //! A [`List`] is written, [`admit`] says whether it is well formed and what it can need at

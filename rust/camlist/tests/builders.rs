@@ -1,6 +1,8 @@
 //! The header's functions that write lists and replies, beside this crate's: parts in range
 //! and too wide, with room and without.
 
+#![cfg(library)]
+
 #[path = "common/fed.rs"]
 mod fed;
 #[path = "common/program.rs"]

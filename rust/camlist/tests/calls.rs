@@ -3,6 +3,8 @@
 //! Every number of answer and record and every incoming byte is compared, refused calls
 //! included.
 
+#![cfg(library)]
+
 mod common;
 #[path = "common/seed.rs"]
 mod seed;

@@ -1,5 +1,7 @@
 //! Program camrun, as the kit builds it, beside what the separate build says it prints.
 
+#![cfg(library)]
+
 use reference::camrun::{render, MOST_BYTES};
 use reference::cases::by_hand::{double, kind, list, list_with, ok, one, single, HALT, M15};
 use reference::cases::{case, paper};

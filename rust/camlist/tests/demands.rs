@@ -1,6 +1,8 @@
 //! Queues of demands (document 02's E2), the proved calls beside those of the separate build.
 //! Every queue lies between fences, and a refused call must keep every byte.
 
+#![cfg(library)]
+
 mod common;
 #[path = "common/fed.rs"]
 mod fed;

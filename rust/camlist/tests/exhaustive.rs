@@ -1,5 +1,7 @@
 //! Every row of some replies, up to its run's end, for every small list of a family.
 
+#![cfg(library)]
+
 mod common;
 #[path = "common/family.rs"]
 mod family;

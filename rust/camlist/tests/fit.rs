@@ -2,6 +2,8 @@
 //! one below, at and one above its bound, each status bit, notes around both marks, every two
 //! marks, numbers too wide for their part.
 
+#![cfg(library)]
+
 mod common;
 #[path = "common/family.rs"]
 mod family;

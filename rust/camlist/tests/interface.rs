@@ -1,6 +1,8 @@
 //! What the header promises a host in C: buffers, sizes of answers and records, constants,
 //! texts and names, and the example program. The types of this crate repeat its constants.
 
+#![cfg(library)]
+
 use camlist::ffi::TAKE_NUMBERS;
 use camlist::ffi::{self, raw, ADMIT_NUMBERS, CALL_NUMBERS, DEMAND_NUMBERS, RUN_NUMBERS};
 use camlist::ffi::{NAME_BYTES, QUEUE_BYTES, RECORD_NUMBERS, SCALERS_NUMBERS, STEPS_NUMBERS};

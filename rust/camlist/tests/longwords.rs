@@ -1,6 +1,8 @@
 //! Stored longwords taken apart, by the header's functions and by this crate's: any bytes, and
 //! words that the engine stored.
 
+#![cfg(library)]
+
 #[path = "common/fed.rs"]
 mod fed;
 #[path = "common/program.rs"]

@@ -2,6 +2,8 @@
 //! to 2,048, so at every mark up to 4,096: the engine's sum beside the separate build's test.
 //! The words before are a whole block, or a block that asks for more and is closed.
 
+#![cfg(library)]
+
 mod common;
 
 use camlist::ffi;

@@ -2,6 +2,8 @@
 //! an answer and the three other kinds, by one step from every record that fits, with every two
 //! marks, with no flags gathered before it and no word moved, and with all flags and a note.
 
+#![cfg(library)]
+
 mod common;
 #[path = "common/family.rs"]
 mod family;

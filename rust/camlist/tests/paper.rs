@@ -1,5 +1,7 @@
 //! The cases of documents 01 and 02 and the manual's examples, through the C interface.
 
+#![cfg(library)]
+
 mod common;
 
 use camlist::ffi::{admit, run, start, step, to_binary, to_decimal};

@@ -1,6 +1,8 @@
 //! Random cases, from a fixed seed and from a fresh one: lists valid, damaged and at the
 //! edges, rows of every manner, buffers exact, longer and short.
 
+#![cfg(library)]
+
 mod common;
 #[path = "common/seed.rs"]
 mod seed;

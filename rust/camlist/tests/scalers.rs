@@ -1,6 +1,8 @@
 //! Decimal scalers (document 02's E10), the proved conversions beside those of the separate
 //! build. Every row lies between fences, and a refused one must keep every byte.
 
+#![cfg(library)]
+
 mod common;
 #[path = "common/fed.rs"]
 mod fed;

@@ -2,6 +2,8 @@
 //! can follow, and any in random lists. Both engines are compared; and the proved one with
 //! itself, since such a run is the run in which the blocks ask for the words that they brought.
 
+#![cfg(library)]
+
 mod common;
 #[path = "common/seed.rs"]
 mod seed;

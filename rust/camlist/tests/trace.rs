@@ -1,6 +1,7 @@
 //! Which instructions the library runs doesn't depend on a mark's remainder modulo 4:
 //! tests/c/trace.c records them.
 
+#![cfg(library)]
 #![cfg(all(target_arch = "x86_64", target_os = "linux"))]
 
 #[path = "common/program.rs"]

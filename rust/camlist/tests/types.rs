@@ -1,6 +1,8 @@
 //! The types say what the numbers say, on random cases; the builders write what the separate
 //! build's drafts write.
 
+#![cfg(library)]
+
 use camlist::{admit, ffi, run, Buffer, Camac, List, Operation, Reason, Record, Refusal};
 use camlist::{Reply, Run};
 use reference::cases::calls::call_case;

@@ -2,6 +2,8 @@
 //! transfer mode, in both lengths; and with every word size, AD and many second longwords where
 //! N, A and F are at their limits.
 
+#![cfg(library)]
+
 mod common;
 
 use common::{compare_admission, compare_start, compare_step, Given};
