@@ -86,9 +86,11 @@ pub fn within(text: &str, usual: Source) -> Result<Vec<Quotation>, String> {
     Ok(found)
 }
 
-/// The text of a line comment; none for a rule between parts of a file.
+/// The text of a line comment, a documenting one or not; none for a rule between parts of a
+/// file.
 fn comment<'a>(line: &'a str, sign: &str) -> Option<&'a str> {
     let text = line.trim_start().strip_prefix(sign)?;
+    let text = text.trim_start_matches(['/', '!']);
     (!text.ends_with("----")).then_some(text.trim())
 }
 

@@ -75,6 +75,15 @@ fn in_crates(root: &Path) -> Result<Vec<Found>, String> {
     Ok(found)
 }
 
+/// The separate build is written from the papers, and quotes them.
+fn in_separate_build(root: &Path) -> Result<Vec<Found>, String> {
+    let mut found = Vec::new();
+    for path in files_below(&root.join("rust/reference"), "rs") {
+        found.extend(in_file(root, &path, "//")?);
+    }
+    Ok(found)
+}
+
 fn in_documents(root: &Path) -> Result<Vec<Found>, String> {
     let mut found = Vec::new();
     for document in DOCUMENTS {
@@ -124,17 +133,17 @@ fn demand(reading: &str, number: u32) -> Result<String, String> {
         .by_ref()
         .take_while(|line| !line.starts_with('#'))
         .collect();
-    let mut quoted = Vec::new();
+    let mut words = Vec::new();
     for (_, text) in quotations::paragraphs(&own.join("\n")) {
-        quoted.extend(quotations::within(&text, Source::Scope)?);
+        let quoted = quotations::within(&text, Source::Scope)?;
+        let is_of_it = |q: &Quotation| q.source == Source::Demand(number);
+        words.extend(quoted.into_iter().filter(is_of_it).map(|q| q.words));
     }
-    match quoted.first() {
-        Some(_) => Ok(quoted
-            .iter()
-            .map(|q| q.words.clone())
-            .collect::<Vec<_>>()
-            .join("\n")),
-        None => Err(format!("docs/READING.md quotes nothing below `{head}`")),
+    match words.as_slice() {
+        [] => Err(format!(
+            "docs/READING.md does not quote the customer below `{head}`"
+        )),
+        _ => Ok(words.join("\n")),
     }
 }
 
@@ -164,6 +173,7 @@ fn too_long(found: &[Found]) -> Vec<String> {
 /// The faults of each part that could be looked at.
 fn parts(root: &Path) -> Result<Vec<Vec<String>>, String> {
     let mut found = in_crates(root)?;
+    found.extend(in_separate_build(root)?);
     found.extend(in_documents(root)?);
     let of = |is_meant: fn(&Source) -> bool| -> Vec<&Found> {
         found
