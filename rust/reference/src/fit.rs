@@ -143,9 +143,9 @@ pub fn most_still_possible(admitted: &Admitted, record: &Record) -> u64 {
     }
 }
 
-/// "the same sums over the words left and the walk after them, less the tries made, with
-/// P and S of the current N and A; where a scan has more words left than positions, its
-/// positions and nothing after it."
+/// "the same sums over the words left and the walk after them, less the tries made", a
+/// scan's "with P and S of the current N and A"; "where a scan has more words left than
+/// positions, its positions and nothing after it."
 fn most_from(admitted: &Admitted, visit: usize, camac: &Camac, record: &Record) -> u64 {
     let words = record.words_left;
     let here = match camac.q_mode {

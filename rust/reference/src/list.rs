@@ -102,7 +102,7 @@ fn first_field(field: &Field) -> Result<u64, Refusal> {
     }
 }
 
-/// A later field's instruction. "3: unknown tag, or 01h again. 4: length wrong for its
+/// A later field's instruction. "3: unknown tag, or 01h again." "4: length wrong for its
 /// tag."
 fn instruction(field: &Field) -> Result<Instruction, Refusal> {
     match (field.tag, field.body.len()) {
@@ -115,7 +115,7 @@ fn instruction(field: &Field) -> Result<Instruction, Refusal> {
     }
 }
 
-/// "10h, 4 or 8: CAMAC instruction, one or two longwords".
+/// Tag 10h, length 4 or 8: "CAMAC instruction, one or two longwords".
 fn camac(field: &Field) -> Result<Instruction, Refusal> {
     let first = longword(&field.body[..4]);
     let second = field.body.get(4..8).map(longword);

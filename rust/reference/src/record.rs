@@ -3,7 +3,7 @@
 use crate::scan::Position;
 
 /// "The note is the buffer (0 incoming, 1 outgoing), offset and length of the last read
-/// or block or single write word moved, zeros before any".
+/// or block or single write word moved", and "zeros before any".
 #[derive(Clone, Copy, Debug, Default, PartialEq, Eq)]
 pub struct Note {
     pub buffer: u64,
@@ -90,8 +90,8 @@ impl Record {
     }
 }
 
-/// "The last moved word is shown as a part of whichever buffer carried it, or an empty
-/// incoming part if none or if the note lies outside." The number is the buffer's.
+/// "The last moved word is shown as a part of whichever buffer carried it", or "an
+/// empty incoming part if none or if the note lies outside." The number is the buffer's.
 pub fn last_moved<'a>(incoming: &'a [u8], outgoing: &'a [u8], note: &Note) -> (u64, &'a [u8]) {
     let nothing = (0, &incoming[..0]);
     let buffer = match note.buffer {

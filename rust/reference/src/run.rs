@@ -296,8 +296,8 @@ fn take_answer(
     let causes = causes(list, &camac, &record, response, next);
     record.status |= status::flags(response) | causes.flags();
     if let Some(code) = causes.greatest() {
-        // "A reply that ends the run so moves no word, except that a word done at the
-        // scan's last position, with 9 as the only cause, is moved first."
+        // "A reply that ends the run so moves no word", but "a word done at the scan's last
+        // position, with 9 as the only cause, is moved first."
         if done && causes.only_scan_left() {
             record = move_word(record, &camac, incoming, response);
         }
@@ -332,9 +332,8 @@ pub(crate) fn current_camac(list: &List, record: &Record) -> Camac {
     }
 }
 
-/// "For a digitizer with fewer samples than asked, Q = 0 in a stop block is the normal end.
-/// A stop block, enhanced or standard, now finishes without moving that word, read or write,
-/// and the list goes on unless another cause ends it" (E8).
+/// "Q = 0 in a stop block is the normal end" (E8): the block "finishes without moving that
+/// word, read or write, and the list goes on unless another cause ends it" (E8).
 fn closes(camac: &Camac, response: &Response) -> bool {
     camac.is_stop_block() && !response.q
 }
@@ -466,8 +465,8 @@ fn move_word(
     record
 }
 
-/// What a read stores of an answer: "When a read's 24-bit word is stored, bit 31 becomes Q
-/// and bit 30 X; bits 29–24 stay zero", and "16-bit words don't change" (E9).
+/// What a read stores of an answer. In a 24-bit word "bit 31 becomes Q and bit 30 X; bits
+/// 29–24 stay zero" (E9); "16-bit words don't change" (E9).
 fn stored(size: WordSize, response: &Response) -> u32 {
     match size {
         WordSize::Bits16 => response.data,

@@ -8,8 +8,8 @@ pub const ZERO_BITS: u32 = 1 << 31 | 1 << 30 | 1 << 15 | 1 << 14 | 1 << 7 | 1 <<
 /// The largest H of a block: "H above 65,536" is refused.
 pub const MOST_HALFWORDS: u32 = 65_536;
 
-/// "Q-mode 0 stop, 1 ignore, 2 repeat, 3 scan." In transfer mode 2 "Q-mode 3 there is the
-/// list sequencer", which "goes by ignore mode's rules" (E1): its Q-mode is ignore here.
+/// "Q-mode 0 stop, 1 ignore, 2 repeat, 3 scan." In transfer mode 2 the last "is the list
+/// sequencer" (E1), which "goes by ignore mode's rules" (E1): its Q-mode is ignore here.
 #[derive(Clone, Copy, Debug, PartialEq, Eq)]
 pub enum QMode {
     Stop,
@@ -94,8 +94,8 @@ impl Camac {
         }
     }
 
-    /// By F, but for the sequencer: "A 0 or 1 reading and 2 or 3 writing"; "A tells the
-    /// direction there, although F 12 is a control function" (E1).
+    /// By F, but for the sequencer: "A 0 or 1 reading and 2 or 3 writing" (E1); "A tells
+    /// the direction there, although F 12 is a control function" (E1).
     pub fn direction(&self) -> Direction {
         match (self.transfer, self.address.subaddress) {
             (Transfer::Sequencer { .. }, 0 | 1) => Direction::Read,
@@ -228,8 +228,8 @@ enum Mode {
     Inline(u32),
 }
 
-/// "8: length not the mode's; block with control; inline not write"; it "no longer takes
-/// mode 2 as such" (E1).
+/// "8: .. length not the mode's; block with control; inline not write"; it "no longer
+/// takes mode 2 as such" (E1).
 fn check_mode(first: u32, second: Option<u32>) -> Result<Mode, u8> {
     let direction = direction(address(first).function);
     match (transfer_mode(first), second) {
@@ -245,7 +245,7 @@ fn check_mode(first: u32, second: Option<u32>) -> Result<Mode, u8> {
     }
 }
 
-/// What 8 takes in transfer mode 2, "a length other than 8" aside.
+/// What 8 takes in transfer mode 2, "a length other than 8" (E1) aside.
 #[derive(Clone, Copy, Debug, PartialEq, Eq, PartialOrd, Ord)]
 pub enum EnhancedFault {
     Control,
@@ -256,7 +256,7 @@ pub enum EnhancedFault {
 }
 
 /// "control outside sequencer mode, a repeat write, or a sequencer instruction other than
-/// those four": "N 30, F 12, A 0 or 1 reading and 2 or 3 writing" (E1).
+/// those four" (E1): "N 30, F 12, A 0 or 1 reading and 2 or 3 writing" (E1).
 pub fn enhanced_fault(first: u32) -> Option<EnhancedFault> {
     let Address {
         station,
@@ -315,7 +315,7 @@ fn block_words(second: u32, size: WordSize) -> Result<u64, u8> {
     }
 }
 
-/// The last of 9: "scan with n above P", which "doesn't apply" to the sequencer (E1).
+/// The last of 9: "scan with n above P". To the sequencer it "doesn't apply" (E1).
 fn check_scan(instruction: &Camac) -> Result<(), u8> {
     let scans = instruction.q_mode == QMode::Scan;
     if scans && instruction.words() > instruction.position().positions() {

@@ -41,7 +41,7 @@ fn compare_plain(call: &Call, given: &[u8]) {
     assert!(queue == expected, "{call:?}");
 }
 
-/// "For every list of add, add-row, take and clear from empty .."
+/// "For every list of add, add-row, take and clear from empty" the law holds.
 #[test]
 fn lists_of_calls() {
     let mut coverage = Coverage::of_demands();
@@ -145,7 +145,7 @@ fn the_mark() {
 }
 
 /// "25 for a queue handed in that breaks its layout's limits, a demand whose crate isn't 1 to
-/// 62, or a row of odd length; a call so refused changes neither queue nor mark."
+/// 62, or a row of odd length"; "a call so refused changes neither queue nor mark."
 #[test]
 fn refusals() {
     let mut rng = Rng::new(SEED);

@@ -37,7 +37,7 @@ fn a_run_by_hand() {
     assert_eq!(answer, [24, 0, 0, 0, 0, 0, 0, 0, 0]);
 }
 
-/// E1: "The operation wanted next gains a sixth number", in start, step and steps; zero after
+/// "The operation wanted next gains a sixth number" (E1), in start, step and steps; zero after
 /// the end. Two words for the sequencer's list 3, then a standard read.
 #[test]
 fn an_enhanced_run_by_hand() {

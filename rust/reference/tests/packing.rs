@@ -109,7 +109,7 @@ fn marks_after_many_words_are_those_of_one_by_one() {
     }
 }
 
-/// E3: the sum is "the least multiple of 4 not below an even mark", and what the test gives.
+/// The sum is "the least multiple of 4 not below an even mark" (E3), and what the test gives.
 #[test]
 fn the_sum_is_the_test_for_even_marks() {
     for mark in (0..=4_096).step_by(2) {

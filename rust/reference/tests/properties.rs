@@ -37,8 +37,8 @@ fn small_list(rng: &mut Rng) -> (Vec<u8>, Admitted) {
 }
 
 /// Demand 3, upper half: along any run operations stay within W, the incoming mark within
-/// B, nothing is written at B or after, and the record always fits. E8: "B and O become the
-/// most that can be stored and taken; no reply list passes them".
+/// B, nothing is written at B or after, and the record always fits. "B and O become the most
+/// that can be stored and taken; no reply list passes them" (E8).
 #[test]
 fn runs_stay_within_w_and_b() {
     let mut rng = Rng::new(3);
@@ -67,7 +67,7 @@ fn runs_stay_within_w_and_b() {
 }
 
 /// Demand 3, attained half: the slowest replies make W operations, fill B bytes and end
-/// with code 0. E8: "some run without short blocks reaches them along with W": none of these
+/// with code 0. "some run without short blocks reaches them along with W" (E8): none of these
 /// replies has Q = 0 in stop.
 #[test]
 fn the_slowest_replies_reach_w_and_b() {
@@ -94,7 +94,7 @@ fn the_slowest_replies_reach_w_and_b() {
     assert!(reached > CASES / 2);
 }
 
-/// E1: "Counts, packing and endings are those of standard blocks": with its standard blocks
+/// "Counts, packing and endings are those of standard blocks" (E1): with its standard blocks
 /// turned enhanced where those are carried, a list runs as before.
 #[test]
 fn enhanced_blocks_run_as_standard_ones() {
@@ -125,8 +125,8 @@ fn turn_enhanced(field: &mut DraftField) -> bool {
     true
 }
 
-/// "It goes by ignore mode's rules": a sequencer runs as the ignore block at its N and A that
-/// reads, for A 0 and 1, or writes.
+/// "It goes by ignore mode's rules" (E1): a sequencer runs as the ignore block at its N and A
+/// that reads, for A 0 and 1, or writes.
 #[test]
 fn a_sequencer_runs_as_an_ignore_block() {
     let mut rng = Rng::new(8);
@@ -359,7 +359,7 @@ fn q_0_in_stop_moves_no_word() {
     assert!(closed > CASES / 200 && ended > CASES / 200);
 }
 
-/// E8: "each mark need only be even and no greater than the old one at its place", for every
+/// "each mark need only be even and no greater than the old one at its place" (E8), for every
 /// list and each mark by itself. The old marks are those of a run with clean answers.
 #[test]
 fn every_two_marks_around_the_old_ones() {

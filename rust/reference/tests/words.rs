@@ -214,7 +214,7 @@ fn enhanced_blocks() {
     }
 }
 
-/// E8: "A stop block, enhanced or standard", of one word too; singles and inline writes in stop
+/// "A stop block, enhanced or standard" (E8), of one word too; singles and inline writes in stop
 /// are none, nor is the list sequencer.
 #[test]
 fn stop_blocks() {

@@ -1,4 +1,4 @@
-//! Calls on a queue of demands (document 02's E2): queues within their limits and beyond one of
+//! Calls on a queue of demands (document 02, E2): queues within their limits and beyond one of
 //! them, lists of calls that fill a queue, empty it and go round its cells.
 
 use super::rng::Rng;
@@ -281,9 +281,8 @@ fn any_row(rng: &mut Rng, demands: usize) -> Vec<u8> {
     row
 }
 
-/// "For every list of add, add-row, take and clear from empty, what was taken and cleared, in
-/// order, followed by what still waits, is what accepted adds brought less what came with 2,048
-/// waiting."
+/// The law of a list of calls from empty: "what was taken and cleared, in order, followed by
+/// what still waits, is what accepted adds brought less what came with 2,048 waiting."
 #[derive(Default)]
 pub struct Ledger {
     gone: Vec<Demand>,

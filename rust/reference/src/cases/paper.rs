@@ -105,7 +105,7 @@ impl Known {
         Known { positions, ..self }
     }
 
-    /// With crate, N, A, F, data and "enhanced" of the operation wanted behind the row.
+    /// With crate, N, A, F, data and the sixth number of the operation wanted behind the row.
     fn wants(self, wanted: [u64; 6]) -> Known {
         let wanted = Some(wanted);
         Known { wanted, ..self }
@@ -388,7 +388,7 @@ fn enhanced_blocks() -> Vec<Known> {
     ]
 }
 
-/// E3: "The pad bytes and every answer are as before".
+/// "The pad bytes and every answer are as before" (E3).
 fn pads() -> Vec<Known> {
     let read = single(0x0200_0102);
     let literal = "21 04 00 DD CC BB AA";
@@ -428,7 +428,7 @@ pub fn manual() -> Vec<Known> {
     sections.into_iter().flatten().collect()
 }
 
-/// "CAMAC List Processing Example".
+/// 001, CAMAC List Processing Example.
 fn worked_list() -> Vec<Known> {
     let all_ok = ok(0x12_3456).repeat(2_054);
     let slow_reads = answers(&[X, X, Q | X]).repeat(1_024);
@@ -451,7 +451,7 @@ fn worked_list() -> Vec<Known> {
     ]
 }
 
-/// "Timer Initiated List Processing Example".
+/// 001, Timer Initiated List Processing Example.
 fn timer_list() -> Vec<Known> {
     let without_halt = M07.replace("2F 00 00", "");
     let jump_first = format!("20 02 00 01 00 {}", M07.replace("20 02 00 00 00", ""));
@@ -465,7 +465,7 @@ fn timer_list() -> Vec<Known> {
     ]
 }
 
-/// "Data FIFO Register": the three figures, read and written.
+/// 001, Data FIFO Register: the three figures, read and written.
 fn packing_figures() -> Vec<Known> {
     let eight = |first| one(&double(first, 0xFFFF_FFF8));
     let short: Vec<u32> = (1..=8).map(|word| 0x1000 + word * 0x101).collect();
@@ -502,7 +502,7 @@ fn packing_figures() -> Vec<Known> {
     ]
 }
 
-/// "Write Reply FIFO Instruction".
+/// 001, Write Reply FIFO Instruction.
 fn write_reply() -> Vec<Known> {
     let words = |n: u32| double(0x0C02_0322, n.wrapping_neg());
     let literal = "21 04 00 5A 5A 00 00";
@@ -524,7 +524,7 @@ fn write_reply() -> Vec<Known> {
     ]
 }
 
-/// "CAMAC Standard Block Transfer Instructions": counts.
+/// 001, CAMAC Standard Block Transfer Instructions: counts.
 fn transfer_counts() -> Vec<Known> {
     let short = |count| one(&double(0x0C02_0322, count));
     let wide = |count| one(&double(0x0C02_0320, count));
@@ -547,7 +547,7 @@ fn transfer_counts() -> Vec<Known> {
     ]
 }
 
-/// "Enhanced List Sequencer Modes" and the words of enhanced blocks.
+/// 001, Enhanced List Sequencer Modes, and the words of enhanced blocks.
 fn enhanced_words() -> Vec<Known> {
     let of = |name, first, count, line| Known::new(name, one(&double(first, count)), line);
     let read = |name, first, line| of(name, first, 0xFFFF_FFFE, line);
@@ -633,7 +633,7 @@ fn functions() -> Vec<Known> {
     cases
 }
 
-/// "Q-Scan Standard Block Transfers", with the numbers of K3 to K6.
+/// 001, Q-Scan Standard Block Transfers, with the numbers of K3 to K6.
 fn scans() -> Vec<Known> {
     let done = Q | X;
     let mut second_fails = [done; 18];
@@ -667,7 +667,7 @@ fn scans() -> Vec<Known> {
     ]
 }
 
-/// "Q-Repeat Standard Block Transfers".
+/// 001, Q-Repeat Standard Block Transfers.
 fn repeats() -> Vec<Known> {
     let of = |name, flags: &[u8], ending| {
         Known::new(name, repeat(), "admitted 6 8 0").run(answers(flags), ending)
@@ -712,7 +712,7 @@ fn kinds_and_flags() -> Vec<Known> {
     ]
 }
 
-/// "Control/Status Register": endings with nothing else gathered.
+/// 001, Control/Status Register: endings with nothing else gathered.
 fn endings() -> Vec<Known> {
     let plain = |name, flags: u8, ending| answered(name, 0x0C02_0302, &answers(&[flags]), ending);
     vec![

@@ -1,4 +1,4 @@
-//! E4: "ERR with X = 1 and AD = 0 ends the run with code 4".
+//! Damaged commands (document 02, E4): "ERR with X = 1 and AD = 0 ends the run with code 4".
 
 use super::{oks, repeat, scan, Known, KnownStep};
 use crate::cases::by_hand::*;

@@ -1,6 +1,6 @@
-//! E2: "Keep up to 2,048, oldest out first." Calls and results stand as in the examples: bytes in
-//! hexadecimal, `fill N` for N demands 0101, and behind each result how many wait and the
-//! overflow mark.
+//! Demands (document 02, E2): "Keep up to 2,048, oldest out first." Calls and results stand as in
+//! the examples: bytes in hexadecimal, `fill N` for N demands 0101, and behind each result how
+//! many wait and the overflow mark.
 
 use super::Engine;
 use crate::cases::demands::{empty, Call, Numbers};

@@ -1,5 +1,5 @@
-//! E9: "When a read's 24-bit word is stored, bit 31 becomes Q and bit 30 X; bits 29–24 stay
-//! zero. Literals and 16-bit words don't change."
+//! A read's 24-bit word as it is stored (document 02, E9): "bit 31 becomes Q and bit 30 X; bits
+//! 29–24 stay zero. Literals and 16-bit words don't change."
 
 use super::{oks, scan, Known, KnownStep};
 use crate::cases::by_hand::*;

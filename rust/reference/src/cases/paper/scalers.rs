@@ -1,5 +1,5 @@
-//! E10: "Convert a row of stored longwords .. to binary, keeping bits 31 and 30, and from binary
-//! back."
+//! Decimal scalers (document 02, E10): "Convert a row of stored longwords .. to binary, keeping
+//! bits 31 and 30, and from binary back."
 
 use super::Engine;
 use crate::cases::by_hand::hex;

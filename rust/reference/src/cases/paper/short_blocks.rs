@@ -1,5 +1,5 @@
-//! E8: "A stop block, enhanced or standard, now finishes without moving that word, read or
-//! write, and the list goes on unless another cause ends it; bit 16 is set."
+//! Short blocks (document 02, E8): at Q = 0 a stop block "finishes without moving that word, read
+//! or write, and the list goes on unless another cause ends it; bit 16 is set."
 
 use super::{oks, repeat, Known, KnownStep};
 use crate::cases::by_hand::*;
