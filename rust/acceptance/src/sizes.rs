@@ -32,8 +32,8 @@ fn lines(folder: &Path, ending: &str) -> Result<usize, String> {
 }
 
 /// A crate's lines of code, of definitions, of those that describe code, and of proofs, its
-/// functions and its must-fail edits.
-fn of_crate(root: &Path, name: &str) -> Result<[usize; 6], String> {
+/// functions, its must-fail edits and its further ones.
+fn of_crate(root: &Path, name: &str) -> Result<[usize; 7], String> {
     let folder = root.join("crates").join(name);
     let specs = lines(&folder.join("specs"), "antt")?;
     let model = lines(&folder.join("specs/model"), "antt")?;
@@ -44,6 +44,7 @@ fn of_crate(root: &Path, name: &str) -> Result<[usize; 6], String> {
         lines(&folder.join("proofs"), "antt")?,
         code::of_crate(root, name)?.len(),
         files::with_ending(&folder.join("must-fail"), "edit")?.len(),
+        files::with_ending(&root.join("acceptance/code").join(name), "edit")?.len(),
     ])
 }
 
@@ -103,7 +104,7 @@ pub fn table(root: &Path) -> Result<String, String> {
     let definitions = root.join("acceptance/definitions");
     let edits = files::with_ending(&definitions, "edit")?.len();
     Ok(format!(
-        "\n| Crate | Code | Definitions | Models | Proofs | Functions | Must-fail edits |\n|---|---|---|---|---|---|---|\n{}\n\
+        "\n| Crate | Code | Definitions | Models | Proofs | Functions | Must-fail edits | Further edits |\n|---|---|---|---|---|---|---|---|\n{}\n\
          Edits of definitions in `acceptance/definitions`: {edits}.\n\n\
          | Rust package | Code | Tests, examples | Test functions |\n|---|---|---|---|\n{}\n",
         summed(&crates),
@@ -127,9 +128,9 @@ mod tests {
     #[test]
     fn sizes_of_this_repository() {
         let root = repository::root();
-        let [code, definitions, _, proofs, functions, edits] =
+        let [code, definitions, _, proofs, functions, must_fail, further] =
             of_crate(&root, "walk").expect("a crate");
         assert!([code, definitions, proofs].iter().all(|lines| *lines > 50));
-        assert!(functions > 5 && edits > 0);
+        assert!(functions > 5 && must_fail > 0 && further > 0);
     }
 }
