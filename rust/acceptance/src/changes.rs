@@ -175,16 +175,25 @@ fn ends_operand(token: &str) -> bool {
     !keywords.contains(&token) && (is_of_word(last) || last == ')' || last == ']')
 }
 
-/// A constant one greater, or the other truth.
-fn other_constant(token: &str) -> Option<String> {
+/// The constants of a source file, each with its type.
+fn constants(text: &str) -> Fields {
+    let declared = |line: &str| {
+        let line = line.trim_start_matches("pub ");
+        let (name, rest) = line.strip_prefix("const ")?.split_once(": ")?;
+        Some((name.to_string(), rest.split(" =").next()?.to_string()))
+    };
+    text.lines().filter_map(declared).collect()
+}
+
+/// A number one greater, the other truth, or another constant of the type.
+fn other_constant(token: &str, constants: &Fields) -> Option<String> {
     match token {
         "true" => return Some("false".to_string()),
         "false" => return Some("true".to_string()),
         _ => {}
     }
-    let is_name = token.chars().all(|c| c.is_ascii_uppercase() || c == '_');
-    if is_name && token.len() > 1 {
-        return Some(format!("({token} + 1)"));
+    if let Some(other) = beside(token, constants) {
+        return Some(other.to_string());
     }
     let number = match token.strip_prefix("0x") {
         Some(digits) => u64::from_str_radix(digits, 16).ok(),
@@ -193,22 +202,28 @@ fn other_constant(token: &str) -> Option<String> {
     number.map(|n| (n + 1).to_string())
 }
 
+/// The next that has the type of one, behind it or else from the first on.
+fn beside<'a>(name: &str, all: &'a Fields) -> Option<&'a str> {
+    let own = all.iter().position(|f| f.0 == name)?;
+    let mut after = all[own + 1..].iter().chain(&all[..own]);
+    let other = after.find(|f| f.1 == all[own].1);
+    other.map(|f| f.0.as_str())
+}
+
 /// Fields that stand beside one in a struct and have its type, each once.
 fn other_fields<'a>(field: &str, structs: &'a [Fields]) -> Vec<&'a str> {
     let mut found: Vec<&str> = Vec::new();
-    for fields in structs {
-        let Some(own) = fields.iter().position(|f| f.0 == field) else {
-            continue;
-        };
-        let after = fields[own + 1..].iter().chain(&fields[..own]);
-        let other = after.clone().find(|f| f.1 == fields[own].1);
-        found.extend(other.map(|f| f.0.as_str()).filter(|f| !found.contains(f)));
+    for other in structs.iter().filter_map(|fields| beside(field, fields)) {
+        if !found.contains(&other) {
+            found.push(other);
+        }
     }
     found
 }
 
 /// What may stand in place of a token, by the tokens around it.
-fn others(before: &str, token: &str, after: &str, structs: &[Fields]) -> Vec<String> {
+fn others(around: [&str; 3], structs: &[Fields], constants: &Fields) -> Vec<String> {
+    let [before, token, after] = around;
     if before == "." && after != "(" {
         return other_fields(token, structs)
             .into_iter()
@@ -219,7 +234,7 @@ fn others(before: &str, token: &str, after: &str, structs: &[Fields]) -> Vec<Str
         return vec![String::new()];
     }
     let operator = other_operator(token).filter(|_| ends_operand(before) && after != "=");
-    let constant = other_constant(token).filter(|_| before != "::");
+    let constant = other_constant(token, constants).filter(|_| before != "::");
     operator
         .map(str::to_string)
         .or(constant)
@@ -229,6 +244,7 @@ fn others(before: &str, token: &str, after: &str, structs: &[Fields]) -> Vec<Str
 
 /// The changes of the functions of a source file, in its order.
 pub fn of(text: &str, structs: &[Fields]) -> Vec<Change> {
+    let constants = constants(text);
     let mut found = Vec::new();
     for body in bodies(text) {
         let own = tokens(text, body.from, body.to);
@@ -245,7 +261,7 @@ pub fn of(text: &str, structs: &[Fields]) -> Vec<Change> {
                 new,
             };
             found.extend(
-                others(before, token.text, after, structs)
+                others([before, token.text, after], structs, &constants)
                     .into_iter()
                     .map(change),
             );
@@ -275,6 +291,10 @@ pub struct Marks {
     pub outgoing: usize,
 }
 
+const LEAST: usize = 4;
+
+const MOST: usize = 8;
+
 // A comment with 1 + 1.
 pub fn after(m: Marks, by: usize) -> usize
     requires { ⌜ by < 2 ^ 63 ⌝ }
@@ -299,15 +319,15 @@ fn none() {
     #[test]
     fn changes_of_a_body() {
         let expected = [
-            (12, "!", ""),
-            (12, "&&", "||"),
-            (12, "==", "!="),
-            (12, "LEAST", "(LEAST + 1)"),
-            (13, "incoming", "outgoing"),
-            (13, "+", "-"),
-            (13, "0x10", "17"),
-            (15, "2", "3"),
-            (15, "+", "-"),
+            (16, "!", ""),
+            (16, "&&", "||"),
+            (16, "==", "!="),
+            (16, "LEAST", "MOST"),
+            (17, "incoming", "outgoing"),
+            (17, "+", "-"),
+            (17, "0x10", "17"),
+            (19, "2", "3"),
+            (19, "+", "-"),
         ];
         let expected: Vec<_> = expected
             .iter()
@@ -323,7 +343,7 @@ fn none() {
             let some = spread(all.clone(), most);
             some.iter().map(|c| c.line).collect()
         };
-        assert_eq!(lines(3), [12, 12, 13]);
+        assert_eq!(lines(3), [16, 16, 17]);
         assert_eq!(lines(100).len(), all.len());
     }
 
