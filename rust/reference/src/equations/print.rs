@@ -1,0 +1,501 @@
+//! Equations as antt prints them: `specs/NAME.antt` has a record for each group, with a
+//! field for each equation; `proofs/NAME.antt` has its value, each field by `refl`.
+
+use std::collections::BTreeSet;
+
+use super::{ran, started, stepped, Call, Equation, Group, Module};
+use crate::cases::by_hand::{DERR, ERR, LPE, Q, TPE, X};
+use crate::record::{last_moved, Note, Record};
+use crate::refusal::Refusal;
+use crate::run::{Answer, Operation};
+use crate::walk::{admit, Counts};
+
+/// The command that prints the files anew.
+pub const COMMAND: &str =
+    "cargo run --release --manifest-path rust/Cargo.toml -p reference --example equations write";
+
+/// Lines are broken where they would be longer.
+const WIDTH: usize = 150;
+/// Names that one `use` line brings.
+const NAMES: usize = 8;
+/// Where equal fields are counted and not written out.
+const MOST_ALIKE: usize = 8;
+
+/// Every file of the modules: its path from the repository's root, and its text.
+pub fn files(modules: &[Module]) -> Vec<(String, String)> {
+    let path = |part: &str, name: &str| format!("crates/equations/{part}/{name}.antt");
+    let mut files = vec![
+        (path("specs", "Lib"), declared(modules, &["Forms"])),
+        (path("proofs", "Lib"), declared(modules, &[])),
+    ];
+    for module in modules {
+        files.push((path("specs", module.name), statements(module)));
+        files.push((path("proofs", module.name), proofs(module)));
+    }
+    files
+}
+
+fn declared(modules: &[Module], others: &[&str]) -> String {
+    let names = others.iter().copied().chain(modules.iter().map(|m| m.name));
+    names.map(|name| format!("pub mod {name}\n")).collect()
+}
+
+/// The file of the statements.
+fn statements(module: &Module) -> String {
+    let records: Vec<String> = module.groups.iter().map(record_type).collect();
+    let body = records.join("\n");
+    format!(
+        "-- {}\n-- Printed with the separate build's answers: {COMMAND}\n{}\n{body}",
+        module.about,
+        uses(&body)
+    )
+}
+
+/// What statements name, by the module that has it.
+const KNOWN: [(&str, &[&str]); 10] = [
+    ("Prim.Native.Nat", &["ℕ", "_+_"]),
+    ("mathlib.Core.Path", &["_≡_"]),
+    ("mathlib.Core.Bool", &["true", "false"]),
+    ("mathlib.Core.List", &["List", "[]", "_∷_", "_++_"]),
+    (
+        "Rattle.listfile.specs.Fields",
+        &["fieldsFrom", "fields", "faulty"],
+    ),
+    ("Rattle.walk.specs.Admission", &["admitOf"]),
+    ("Rattle.reply.specs.Effect", &["stateOf"]),
+    (
+        "Rattle.calls.specs.Calls",
+        &[
+            "Called",
+            "startOf",
+            "stepOf",
+            "RunThrough",
+            "runOf",
+            "lastMoved",
+            "noPart",
+        ],
+    ),
+    (
+        "Rattle.worst_count.specs.Cases",
+        &["firstField", "jump", "literal", "halt"],
+    ),
+    (
+        "Rattle.equations.specs.Forms",
+        &[
+            "hex",
+            "repeated",
+            "camac-4",
+            "camac-8",
+            "Q",
+            "X",
+            "ERR",
+            "DERR",
+            "TPE",
+            "LPE",
+            "answer",
+            "kind",
+            "waiting",
+            "ended",
+            "note",
+            "admitted",
+            "refused",
+            "haltAt",
+            "refusedAt",
+            "operation",
+            "wants",
+            "wantsNone",
+            "refusedWith",
+            "ran",
+            "part",
+        ],
+    ),
+];
+
+/// Whether statements name something so, which no equation may be called.
+pub fn is_known(name: &str) -> bool {
+    KNOWN.iter().any(|(_, names)| names.contains(&name))
+}
+
+/// The `use` lines of what a text names.
+fn uses(body: &str) -> String {
+    let words: BTreeSet<&str> = body.split([' ', '(', ')', '\n']).collect();
+    let is_named = |name: &&&str| words.contains(name.trim_matches('_'));
+    let mut lines = String::new();
+    for (module, names) in KNOWN {
+        let named: Vec<&str> = names.iter().filter(is_named).copied().collect();
+        if !named.is_empty() {
+            lines += &format!("use {module}.{{{}}}\n", named.join(", "));
+        }
+    }
+    lines
+}
+
+/// A group's record, behind the calls that several of its equations share.
+fn record_type(group: &Group) -> String {
+    let shared = shared(group);
+    let calls: String = shared.iter().map(shared_call).collect();
+    let fields: String = group.equations.iter().map(|e| field(e, &shared)).collect();
+    let name = type_name(&group.name);
+    let about = &group.about;
+    format!("-- {about}\n{calls}pub record {name} : Type 0 where\n{fields}")
+}
+
+/// A call but for its last argument, and the name that stands for it.
+struct Shared {
+    call: Vec<String>,
+    name: String,
+}
+
+/// The calls of steps and runs that differ in their reply or row alone.
+fn shared(group: &Group) -> Vec<Shared> {
+    let mut counts: Vec<(Vec<String>, usize)> = Vec::new();
+    for equation in &group.equations {
+        let (mut call, _) = sides(&equation.call);
+        call.pop();
+        match counts.iter_mut().find(|(known, _)| *known == call) {
+            Some((_, count)) => *count += 1,
+            None => counts.push((call, 1)),
+        }
+    }
+    let calls = counts.into_iter().filter(|(call, count)| {
+        let varies = call.len() == 2 && call[0] != "[]";
+        varies && *count > 1
+    });
+    let named = calls.enumerate().map(|(number, (call, _))| Shared {
+        call,
+        name: format!("{}-{number}", group.name),
+    });
+    named.collect()
+}
+
+/// The definition of such a name.
+fn shared_call(shared: &Shared) -> String {
+    let Shared { call, name } = shared;
+    let answer = match call[0].starts_with("runOf") {
+        true => "RunThrough",
+        false => "Called",
+    };
+    let line = format!("{name} = {}", call.join(" "));
+    let line = match line.chars().count() <= WIDTH {
+        true => line,
+        false => format!("{name} =\n    {}", call.join("\n    ")),
+    };
+    format!("abbrev pub {name} : List ℕ → {answer}\n{line}\n\n")
+}
+
+/// `one-word` as `OneWord`.
+fn type_name(name: &str) -> String {
+    let capital = |word: &str| word[..1].to_uppercase() + &word[1..];
+    name.split('-').map(capital).collect()
+}
+
+/// One equation, on as few lines as it takes.
+fn field(equation: &Equation, shared: &[Shared]) -> String {
+    let name = &equation.name;
+    let (mut call, answer) = sides(&equation.call);
+    let known = shared.iter().find(|s| call.starts_with(&s.call));
+    if let (Some(known), Some(last)) = (known, call.last()) {
+        call = vec![known.name.clone(), last.clone()];
+    }
+    let whole = call.join(" ");
+    let fits = |line: &str| line.chars().count() <= WIDTH;
+    let line = format!("  pub {name} : {whole} ≡ {answer}\n");
+    if fits(&line) {
+        return line;
+    }
+    let line = format!("  pub {name} : {whole}");
+    let left = if fits(&line) {
+        line
+    } else if fits(&format!("      {whole}")) {
+        format!("  pub {name} :\n      {whole}")
+    } else {
+        format!("  pub {name} :\n      {}", call.join("\n      "))
+    };
+    format!("{left}\n      ≡ {answer}\n")
+}
+
+/// The file of the proofs.
+fn proofs(module: &Module) -> String {
+    let types: Vec<String> = module.groups.iter().map(|g| type_name(&g.name)).collect();
+    let specs = format!("Rattle.equations.specs.{}", module.name);
+    let uses = types
+        .chunks(NAMES)
+        .map(|names| format!("use {specs}.{{{}}}\n", names.join(", ")));
+    let values: Vec<String> = module.groups.iter().map(value).collect();
+    format!(
+        "-- The equations of specs/{} hold: both sides of each compute to the same.\n-- Printed: {COMMAND}\n\
+         use mathlib.Core.Path.{{refl}}\nuse Rattle.worst_count.proofs.Cases.{{opened}}\n{}\n{}",
+        module.name,
+        uses.collect::<String>(),
+        values.join("\n")
+    )
+}
+
+fn value(group: &Group) -> String {
+    let name = &group.name;
+    let line = |equation: &Equation| format!("  {} = refl;\n", equation.name);
+    let fields: String = group.equations.iter().map(line).collect();
+    format!(
+        "pub {name} : {}\nunfolding opened\n{name} = record {{\n{fields}}}\n",
+        type_name(name)
+    )
+}
+
+/// The call, in parts where a line may be broken, and the separate build's answer.
+fn sides(call: &Call) -> (Vec<String>, String) {
+    match call {
+        Call::Admission {
+            list,
+            incoming_len,
+            outgoing_len,
+        } => {
+            let call = format!("admitOf {} {incoming_len} {outgoing_len}", fields(list));
+            (
+                vec![call],
+                admission(admit(list, *incoming_len, *outgoing_len)),
+            )
+        }
+        Call::Fields { before, fields } => fields_read(*before, fields),
+        Call::Start {
+            list,
+            incoming,
+            outgoing,
+        } => {
+            let call = vec![
+                format!("startOf {}", fields(list)),
+                format!("{} {}", hex(incoming), hex(outgoing)),
+            ];
+            let (answer, after) = started(list, incoming, outgoing);
+            (call, called(&answer, (&after, outgoing)))
+        }
+        Call::Step {
+            list,
+            record,
+            incoming,
+            outgoing,
+            reply,
+        } => {
+            let call = vec![
+                format!("stepOf {}", fields(list)),
+                state(record, (incoming, outgoing)),
+                one_reply(reply),
+            ];
+            let (answer, after) = stepped(list, record, (incoming, outgoing), reply);
+            (call, called(&answer, (&after, outgoing)))
+        }
+        Call::Run {
+            list,
+            incoming,
+            outgoing,
+            row,
+        } => run_sides(list, (incoming, outgoing), row),
+        Call::LastWord {
+            note,
+            incoming,
+            outgoing,
+        } => last_word(note, incoming, outgoing),
+    }
+}
+
+fn admission(answer: Result<Counts, Refusal>) -> String {
+    match answer {
+        Ok(Counts { w, b, o }) => format!("admitted {w} {b} {o}"),
+        Err(Refusal { number, place }) => format!("refused {number} {place}"),
+    }
+}
+
+/// The fields with halts before them, as admission reads the whole list.
+fn fields_read(before: usize, part: &[u8]) -> (Vec<String>, String) {
+    let length = part.len();
+    let call = format!("fieldsFrom {length} {} 0 {before}", fields(part));
+    let (list, place) = super::admissions::behind_halts(before, part);
+    let answer = match admit(&list, 0, 0) {
+        Err(refusal) => format!("refusedAt {} {}", refusal.number, refusal.place - place),
+        Ok(_) => {
+            let places = (0..length).step_by(3);
+            let halts: String = places.map(|place| format!("haltAt {place} ∷ ")).collect();
+            format!("fields ({halts}[])")
+        }
+    };
+    (vec![call], answer)
+}
+
+fn run_sides(list: &[u8], buffers: (&[u8], &[u8]), row: &[u8]) -> (Vec<String>, String) {
+    let call = vec![
+        format!("runOf {}", fields(list)),
+        format!("{} {}", hex(buffers.0), hex(buffers.1)),
+        replies(row),
+    ];
+    let (answer, after) = ran(list, buffers, row);
+    let (number, place) = numbers(answer.refusal);
+    let state = state(&answer.record, (&after, buffers.1));
+    (
+        call,
+        format!("ran {number} {place} {} {state}", answer.taken),
+    )
+}
+
+fn last_word(note: &Note, incoming: &[u8], outgoing: &[u8]) -> (Vec<String>, String) {
+    let Note {
+        buffer,
+        offset,
+        length,
+    } = note;
+    let call = format!(
+        "lastMoved (note {buffer} {offset} {length}) {} {}",
+        hex(incoming),
+        hex(outgoing)
+    );
+    let (carrier, part) = last_moved(incoming, outgoing, note);
+    if part.is_empty() {
+        return (vec![call], "noPart".to_string());
+    }
+    let whole = if carrier == 0 { incoming } else { outgoing };
+    let offset = part.as_ptr() as usize - whole.as_ptr() as usize;
+    (vec![call], format!("part {carrier} {offset} {}", hex(part)))
+}
+
+fn called(answer: &Answer, buffers: (&[u8], &[u8])) -> String {
+    let state = state(&answer.record, buffers);
+    match answer.refusal {
+        Some(Refusal { number, place }) => format!("refusedWith {number} {place} {state}"),
+        None if answer.wanted == Operation::default() => format!("wantsNone {state}"),
+        None => format!("wants {} {state}", operation(&answer.wanted)),
+    }
+}
+
+fn numbers(refusal: Option<Refusal>) -> (u8, usize) {
+    refusal.map_or((0, 0), |refusal| (refusal.number, refusal.place))
+}
+
+fn operation(wanted: &Operation) -> String {
+    let Operation {
+        crate_number,
+        n,
+        a,
+        f,
+        data,
+        enhanced,
+    } = wanted;
+    format!("(operation {crate_number} {n} {a} {f} 0x{data:06X} {enhanced})")
+}
+
+fn state(record: &Record, (incoming, outgoing): (&[u8], &[u8])) -> String {
+    let record = record_form(record);
+    format!("(stateOf {record} {} {})", hex(incoming), hex(outgoing))
+}
+
+fn record_form(record: &Record) -> String {
+    let word = if record.ended { "ended" } else { "waiting" };
+    let [_, before @ .., status, buffer, offset, length] = record.numbers();
+    let before = before.map(|number| number.to_string()).join(" ");
+    format!("({word} {before} 0x{status:08X} {buffer} {offset} {length})")
+}
+
+/// Bytes as one hexadecimal number.
+fn hex(bytes: &[u8]) -> String {
+    if bytes.is_empty() {
+        return "[]".to_string();
+    }
+    format!("({})", bare_hex(bytes))
+}
+
+fn bare_hex(bytes: &[u8]) -> String {
+    let digits: String = bytes.iter().map(|byte| format!("{byte:02X}")).collect();
+    format!("hex {} 0x{digits}", bytes.len())
+}
+
+/// A list as its fields; what is no whole field, and all behind it, as bytes.
+fn fields(list: &[u8]) -> String {
+    let mut parts: Vec<String> = Vec::new();
+    let mut rest = list;
+    while let Some((part, behind)) = one_field(rest) {
+        parts.push(part);
+        rest = behind;
+    }
+    if !rest.is_empty() {
+        parts.push(bare_hex(rest));
+    }
+    joined(&parts)
+}
+
+/// Parts in a row, those alike counted where there are many.
+fn joined(parts: &[String]) -> String {
+    let counted: Vec<String> = parts
+        .chunk_by(|a, b| a == b)
+        .flat_map(|alike| match alike.len() {
+            count if count > MOST_ALIKE => vec![format!("repeated {count} {}", alike[0])],
+            _ => alike.to_vec(),
+        })
+        .collect();
+    match counted.as_slice() {
+        [] => "[]".to_string(),
+        [one] if !one.contains(' ') => one.clone(),
+        several => format!("({})", several.join(" ++ ")),
+    }
+}
+
+/// The field that bytes begin with, and the bytes behind it.
+fn one_field(bytes: &[u8]) -> Option<(String, &[u8])> {
+    let word = |bytes: [u8; 4]| format!("0x{:08X}", u32::from_le_bytes(bytes));
+    let short = |bytes: [u8; 2]| u16::from_le_bytes(bytes);
+    match *bytes {
+        [1, 4, 0, 1, 0, a, b, ref rest @ ..] => {
+            Some((format!("firstField {}", short([a, b])), rest))
+        }
+        [0x10, 4, 0, a, b, c, d, ref rest @ ..] => {
+            Some((format!("camac-4 {}", word([a, b, c, d])), rest))
+        }
+        [0x10, 8, 0, a, b, c, d, e, f, g, h, ref rest @ ..] => {
+            let (first, second) = (word([a, b, c, d]), word([e, f, g, h]));
+            Some((format!("camac-8 {first} {second}"), rest))
+        }
+        [0x20, 2, 0, a, b, ref rest @ ..] => Some((format!("jump {}", short([a, b])), rest)),
+        [0x21, 4, 0, a, b, c, d, ref rest @ ..] => {
+            Some((format!("literal {}", word([a, b, c, d])), rest))
+        }
+        [0x2F, 0, 0, ref rest @ ..] => Some(("halt".to_string(), rest)),
+        _ => None,
+    }
+}
+
+fn one_reply(reply: &[u8]) -> String {
+    if reply.is_empty() {
+        return "[]".to_string();
+    }
+    format!("({})", reply_form(reply))
+}
+
+fn replies(row: &[u8]) -> String {
+    let parts: Vec<String> = row.chunks(8).map(reply_form).collect();
+    joined(&parts)
+}
+
+fn reply_form(reply: &[u8]) -> String {
+    match *reply {
+        [0, flags, 0, 0, a, b, c, 0] if flags < 64 => {
+            let data = u32::from_le_bytes([a, b, c, 0]);
+            format!("answer {} 0x{data:06X}", flags_form(flags))
+        }
+        [kind @ 1..=3, 0, 0, 0, 0, 0, 0, 0] => format!("kind {kind}"),
+        _ => bare_hex(reply),
+    }
+}
+
+fn flags_form(flags: u8) -> String {
+    let bits = [
+        (Q, "Q"),
+        (X, "X"),
+        (ERR, "ERR"),
+        (DERR, "DERR"),
+        (TPE, "TPE"),
+        (LPE, "LPE"),
+    ];
+    let set = bits.into_iter().filter(|(bit, _)| flags & bit != 0);
+    let names: Vec<&str> = set.map(|(_, name)| name).collect();
+    match names.as_slice() {
+        [] => "0".to_string(),
+        [one] => one.to_string(),
+        several => format!("({})", several.join(" + ")),
+    }
+}

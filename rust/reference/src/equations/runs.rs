@@ -1,0 +1,390 @@
+//! The whole run: every end code, rows cut short, longer than the run and of no reply, packing,
+//! short blocks and the worst count; then runs of the random generator.
+
+use super::classes::Met;
+use super::instructions::{filled, list, Kind, Word};
+use super::{Call, Group, Module};
+use crate::cases::by_hand::{answer, hex, kind, ok, DERR, ERR, LPE, Q, TPE, X};
+use crate::cases::case;
+use crate::cases::coverage::Mode;
+use crate::cases::lists::DraftField;
+use crate::walk::admit;
+use crate::words::Direction;
+
+pub fn module() -> Module {
+    Module {
+        name: "Runs",
+        about: "The whole run: every end code, rows of all lengths, packing, short blocks, the worst count, refusals.",
+        groups: vec![
+            end_codes(),
+            rows(),
+            bad_rows(),
+            packing(),
+            short_blocks(),
+            worst_counts(),
+            refusals(),
+        ],
+    }
+}
+
+/// A run with buffers as long as B and O and no byte of them zero.
+pub fn exact(list: Vec<u8>, row: Vec<u8>) -> Call {
+    let counts = admit(&list, u64::MAX, u64::MAX).unwrap_or_default();
+    Call::Run {
+        list,
+        incoming: filled(counts.b, 0x11),
+        outgoing: filled(counts.o, 0x81),
+        row,
+    }
+}
+
+fn read(q_mode: u32, mode: u32) -> Word {
+    Word {
+        q_mode,
+        mode,
+        n: 23,
+        a: 13,
+        ..Word::K1
+    }
+}
+
+fn end_codes() -> Group {
+    let about = "each end code, behind a word that was moved";
+    let mut group = Group::new("end-codes", about);
+    let of = |word: Word, replies: &[[u8; 8]]| {
+        let second = (word.mode == 1).then_some(2_u32.wrapping_neg());
+        let fields = vec![Word::K1.field(None), word.field(second)];
+        let row = [vec![ok(0x1122)], replies.to_vec()].concat().concat();
+        exact(list(2, fields), row)
+    };
+    let good = ok(0x3344);
+    let no_q = answer(X, 0x5566);
+    group.add("code-0", of(read(0, 0), &[good]));
+    group.add("code-0-halt-alone", exact(list(2, vec![]), Vec::new()));
+    group.add("code-4", of(read(1, 1), &[good, answer(Q | X | ERR, 5)]));
+    group.add(
+        "code-4-in-scan",
+        of(read(3, 1), &[good, answer(X | ERR | Q, 5)]),
+    );
+    group.add("code-7", of(read(0, 0), &[no_q]));
+    group.add("code-8", of(read(1, 1), &[good, answer(Q, 5)]));
+    group.add("code-8-in-repeat", of(read(2, 1), &[no_q, answer(Q, 5)]));
+    group.add("code-9-skipping", of(read(3, 1), &[good, no_q]));
+    let at_last = Word {
+        a: 15,
+        ..read(3, 0)
+    };
+    group.add("code-9-single", of(at_last, &[no_q]));
+    group.add(
+        "code-A-tpe",
+        of(read(1, 1), &[good, answer(Q | X | TPE, 5)]),
+    );
+    group.add(
+        "code-A-lpe",
+        of(read(2, 1), &[good, answer(Q | X | LPE, 5)]),
+    );
+    group.add("code-B-timeout", of(read(0, 1), &[good, kind(1)]));
+    group.add("code-B-tries-spent", of(read(2, 1), &[good, no_q, no_q]));
+    group.add(
+        "code-B-tries-of-each-word",
+        of(read(2, 1), &[no_q, good, no_q, good]),
+    );
+    group.add("code-C", of(read(0, 1), &[good, kind(2)]));
+    group.add("code-D", of(read(0, 1), &[good, kind(3)]));
+    group
+}
+
+/// Two words read, then a halt.
+fn two_words() -> Vec<u8> {
+    list(3, vec![read(1, 1).of_halfwords(2)])
+}
+
+fn rows() -> Group {
+    let about = "rows of no reply, of fewer than the run takes, of as many, of more; rows with a part of 8 bytes";
+    let mut group = Group::new("rows", about);
+    let replies = [ok(0x1122), ok(0x3344), ok(0x5566), kind(3)].concat();
+    for count in 0..=4 {
+        let row = replies[..8 * count].to_vec();
+        group.add(&format!("replies-{count}"), exact(two_words(), row));
+    }
+    for count in 0..=3 {
+        for part in 1..8 {
+            let row = replies[..8 * count + part].to_vec();
+            let name = format!("replies-{count}-and-{part}-bytes");
+            group.add(&name, exact(two_words(), row));
+        }
+    }
+    group.add(
+        "halt-and-replies",
+        exact(list(3, vec![]), replies[..16].to_vec()),
+    );
+    group.add(
+        "halt-and-3-bytes",
+        exact(list(3, vec![]), replies[..3].to_vec()),
+    );
+    group
+}
+
+/// A row with one reply spoilt.
+fn bad_rows() -> Group {
+    let about = "22: a reply anywhere that isn't formed as it should be, past the run's end too";
+    let mut group = Group::new("bad-rows", about);
+    let spoilt = [
+        ("kind-4", hex("04 00 00 00 00 00 00 00")),
+        ("bit-6", hex("00 43 00 00 01 00 00 00")),
+        ("byte-2", hex("00 03 01 00 01 00 00 00")),
+        ("byte-7", hex("00 03 00 00 01 00 00 01")),
+        ("kind-1-byte-1", hex("01 01 00 00 00 00 00 00")),
+        ("kind-3-byte-4", hex("03 00 00 00 01 00 00 00")),
+    ];
+    for (name, bad) in spoilt {
+        for at in 0..3 {
+            let mut row = [ok(0x1122), ok(0x3344), ok(0x5566)].concat();
+            row[8 * at..8 * at + 8].copy_from_slice(&bad);
+            let name = format!("{name}-in-reply-{at}");
+            group.add(&name, exact(two_words(), row));
+        }
+    }
+    group
+}
+
+fn packing() -> Group {
+    let about = "words and literals in the buffers: pads, marks and notes; Q and X above a stored 24-bit word";
+    let mut group = Group::new("packing", about);
+    let word = |f, wide| Word {
+        f,
+        wide,
+        q_mode: 1,
+        ad: true,
+        ..Word::K1
+    };
+    let literal = || DraftField::literal(0xA1B2_C3D4);
+    let orders: [(&str, &[bool]); 5] = [
+        ("16-24", &[false, true]),
+        ("24-16", &[true, false]),
+        ("16-16-24", &[false, false, true]),
+        ("16-24-16-24", &[false, true, false, true]),
+        ("24-24-16", &[true, true, false]),
+    ];
+    for (f, way) in [(0, "read"), (16, "write")] {
+        for (name, sizes) in orders {
+            let fields = sizes
+                .iter()
+                .map(|&wide| word(f, wide).field(None))
+                .collect();
+            let row = ok(0xF1_E2D3).repeat(sizes.len());
+            group.add(&format!("{way}-{name}"), exact(list(3, fields), row));
+        }
+        let fields = vec![
+            word(f, false).field(None),
+            literal(),
+            word(f, false).field(None),
+            literal(),
+        ];
+        group.add(
+            &format!("{way}-16-literal-16-literal"),
+            exact(list(3, fields), ok(0xF1_E2D3).repeat(2)),
+        );
+    }
+    let fields = vec![
+        word(0, false).field(None),
+        word(16, false).field(None),
+        word(8, false).field(None),
+        word(0, true).field(None),
+        word(16, true).field(None),
+    ];
+    for count in 0..=5 {
+        let row = answer(X | DERR, 0xF1_E2D3).repeat(count);
+        group.add(
+            &format!("both-buffers-replies-{count}"),
+            exact(list(3, fields.clone()), row),
+        );
+    }
+    let block = Word {
+        mode: 1,
+        ..word(0, true)
+    }
+    .of_halfwords(8);
+    let row = [Q | X, Q, X, 0]
+        .map(|bits| answer(bits, 0x03_0201))
+        .concat();
+    group.add(
+        "q-and-x-in-the-longword",
+        exact(list(3, vec![block, literal()]), row),
+    );
+    group
+}
+
+/// What follows a block that is closed.
+fn followers() -> Vec<(&'static str, DraftField)> {
+    let word = |f, wide| {
+        Word {
+            f,
+            wide,
+            ..Word::K1
+        }
+        .field(None)
+    };
+    let inline = Word {
+        f: 16,
+        mode: 3,
+        ..Word::K1
+    };
+    vec![
+        ("read-16", word(0, false)),
+        ("read-24", word(0, true)),
+        ("write-16", word(16, false)),
+        ("write-24", word(16, true)),
+        ("control", word(8, false)),
+        ("inline", inline.field(Some(0x1234))),
+        ("literal", DraftField::literal(0xA1B2_C3D4)),
+        ("jump", DraftField::jump(2)),
+        ("halt", DraftField::halt()),
+    ]
+}
+
+fn short_blocks() -> Group {
+    let about = "Q = 0 closes a stop block at its first, second or last word; what follows goes on at the marks reached";
+    let mut group = Group::new("short-blocks", about);
+    let no_q = answer(X, 0x7788);
+    for (mode, direction) in [
+        (Mode::Block, Direction::Read),
+        (Mode::Enhanced, Direction::Read),
+        (Mode::Block, Direction::Write),
+        (Mode::Enhanced, Direction::Write),
+    ] {
+        let block = Kind {
+            mode,
+            q_mode: 0,
+            direction,
+            wide: false,
+        };
+        for (at, (name, follower)) in followers().into_iter().enumerate() {
+            let moved = at % 3;
+            let fields = vec![block.field(3, false), follower];
+            let good = ok(0x3344);
+            let row = [good.repeat(moved), no_q.to_vec(), good.to_vec()].concat();
+            let name = format!("{}-of-{moved}-before-{name}", block.name());
+            group.add(&name, exact(list(3, fields), row));
+        }
+    }
+    group
+}
+
+fn worst_counts() -> Group {
+    let about = "runs of W operations that end with code 0, with the marks B and O and with less";
+    let mut group = Group::new("worst-counts", about);
+    let of = |word: Word, halfwords, row: Vec<u8>| {
+        let block = Word { mode: 1, ..word };
+        exact(list(2, vec![block.of_halfwords(halfwords)]), row)
+    };
+    let (good, no_q) = (ok(0x3344), answer(X, 0));
+    group.add("stop", of(read(0, 1), 2, good.repeat(2)));
+    group.add("stop-short", of(read(0, 1), 2, [good, no_q].concat()));
+    group.add("ignore", of(read(1, 1), 2, no_q.repeat(2)));
+    group.add(
+        "repeat",
+        of(read(2, 1), 2, [no_q, good, no_q, good].concat()),
+    );
+    let scan = |n, a| Word { n, a, ..read(3, 1) };
+    group.add(
+        "scan-of-one",
+        of(scan(21, 15), 1, [no_q, no_q, good].concat()),
+    );
+    group.add(
+        "scan-of-two",
+        of(scan(22, 15), 2, [no_q, good, good].concat()),
+    );
+    group.add(
+        "scan-of-three",
+        of(scan(22, 14), 3, [good, no_q, good, good].concat()),
+    );
+    group.add("scan-of-all-positions", of(scan(23, 13), 3, good.repeat(3)));
+    group
+}
+
+fn refusals() -> Group {
+    let about =
+        "a refused run: no reply taken, a record marked ended and all else zero, buffers kept";
+    let mut group = Group::new("refused-runs", about);
+    let behind = |text: &str| crate::cases::by_hand::list(text);
+    let bad = hex("04 00 00");
+    let mut of = |name: &str, list: Vec<u8>| {
+        let call = Call::Run {
+            list,
+            incoming: filled(3, 0x11),
+            outgoing: filled(1, 0x81),
+            row: bad.clone(),
+        };
+        group.add(name, call);
+    };
+    of("refusal-1", behind("2F 00"));
+    of("refusal-2", hex("01 04 00 01 00 00 00"));
+    of("refusal-3", behind("2F 00 00 55 00 00"));
+    of("refusal-4", behind("2F 00 00 2F 01 00 00"));
+    of("refusal-6", behind("10 04 00 06 01 00 02 2F 00 00"));
+    of("refusal-7", behind("10 04 00 02 00 00 02 2F 00 00"));
+    of("refusal-8", behind("10 04 00 22 01 00 02 2F 00 00"));
+    of(
+        "refusal-9",
+        behind("10 08 00 22 01 00 02 00 00 00 00 2F 00 00"),
+    );
+    of("refusal-10", behind("2F 00 00 20 02 00 02 00"));
+    of("refusal-11", behind("20 02 00 00 00"));
+    of("refusal-20", behind("21 04 00 01 02 03 04 2F 00 00"));
+    of("refusal-21", behind("10 04 00 02 01 10 02 2F 00 00"));
+    of("refusal-22", behind("2F 00 00"));
+    group
+}
+
+/// Lists, buffers and rows of more bytes than these aren't taken from the generator.
+const MOST_LIST: usize = 64;
+const MOST_BUFFER: usize = 40;
+const MOST_ROW: usize = 64;
+/// How many cases are looked at, and how many are taken whatever they meet.
+const CASES: u64 = 40_000;
+const ANYWAY: usize = 60;
+
+fn is_small(call: &Call) -> bool {
+    let Call::Run {
+        list,
+        incoming,
+        outgoing,
+        row,
+    } = call
+    else {
+        return false;
+    };
+    let buffers = incoming.len().max(outgoing.len());
+    list.len() <= MOST_LIST && buffers <= MOST_BUFFER && row.len() <= MOST_ROW
+}
+
+/// Runs of the generator: the first small ones, then those that meet something new.
+pub fn further(met: &mut Met) -> Module {
+    let about =
+        "small runs of the random generator, then those that meet what nothing before them met";
+    let mut group = Group::new("random-runs", about);
+    for number in 0..CASES {
+        let case = case(1, number);
+        let call = Call::Run {
+            list: case.list,
+            incoming: case.incoming,
+            outgoing: case.outgoing,
+            row: case.row,
+        };
+        if !is_small(&call) {
+            continue;
+        }
+        if group.equations.len() < ANYWAY {
+            met.observe(&call);
+        } else if !met.observe_if_new(&call) {
+            continue;
+        }
+        group.add(&format!("run-{number}"), call);
+    }
+    Module {
+        name: "RandomRuns",
+        about: "The whole run: cases of the separate build's random generator.",
+        groups: vec![group],
+    }
+}
