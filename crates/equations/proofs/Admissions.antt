@@ -120,18 +120,18 @@ refusal-7 = record {
   station-29 = refl;
   station-30 = refl;
   station-31 = refl;
-  station-30-q-mode-0 = refl;
-  inline-station-30-q-mode-0 = refl;
+  single-station-30-q-mode-0 = refl;
   block-station-30-q-mode-0 = refl;
-  station-30-q-mode-1 = refl;
-  inline-station-30-q-mode-1 = refl;
+  inline-station-30-q-mode-0 = refl;
+  single-station-30-q-mode-1 = refl;
   block-station-30-q-mode-1 = refl;
-  station-30-q-mode-2 = refl;
-  inline-station-30-q-mode-2 = refl;
+  inline-station-30-q-mode-1 = refl;
+  single-station-30-q-mode-2 = refl;
   block-station-30-q-mode-2 = refl;
-  station-30-q-mode-3 = refl;
-  inline-station-30-q-mode-3 = refl;
+  inline-station-30-q-mode-2 = refl;
+  single-station-30-q-mode-3 = refl;
   block-station-30-q-mode-3 = refl;
+  inline-station-30-q-mode-3 = refl;
   sequencer-station-24 = refl;
   sequencer-station-30 = refl;
   sequencer-station-31 = refl;
@@ -309,18 +309,18 @@ refusals-20-and-21 = record {
 pub order : Order
 unfolding opened
 order = record {
-  cut-before-unknown-tag = refl;
-  tag-before-length = refl;
-  length-before-zero-bit = refl;
   zero-bit-before-crate = refl;
   zero-bit-before-mode = refl;
   crate-before-mode = refl;
   mode-before-count = refl;
-  count-before-crate-behind = refl;
-  crate-behind-before-jump = refl;
+  count-before-a-zero-bit-behind = refl;
+  zero-bit-behind-before-jump = refl;
   jump-before-walk = refl;
-  first-field-before-others = refl;
+  cut-before-unknown-tag = refl;
+  tag-before-length = refl;
+  length-before-zero-bit = refl;
   walk-before-incoming = refl;
+  first-field-before-others = refl;
 }
 
 pub worst-count : WorstCount
@@ -359,12 +359,12 @@ marks = record {
   read-16-24 = refl;
   read-16-24-16-24 = refl;
   read-3-of-16-24-2-of-16 = refl;
+  read-16-literal = refl;
   write-24-16 = refl;
   write-16-24 = refl;
   write-16-24-16-24 = refl;
   write-3-of-16-24-2-of-16 = refl;
-  one-literal = refl;
-  read-16-literal = refl;
   write-16-literal = refl;
+  one-literal = refl;
   control-and-inline = refl;
 }

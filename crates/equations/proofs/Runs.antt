@@ -8,7 +8,6 @@ pub end-codes : EndCodes
 unfolding opened
 end-codes = record {
   code-0 = refl;
-  code-0-halt-alone = refl;
   code-4 = refl;
   code-4-in-scan = refl;
   code-7 = refl;
@@ -20,9 +19,10 @@ end-codes = record {
   code-A-lpe = refl;
   code-B-timeout = refl;
   code-B-tries-spent = refl;
-  code-B-tries-of-each-word = refl;
+  code-0-tries-of-each-word = refl;
   code-C = refl;
   code-D = refl;
+  code-0-halt-alone = refl;
 }
 
 pub rows : Rows

@@ -77,8 +77,8 @@ ways = record {
   jump-over-a-literal = refl;
   literal-before-a-write = refl;
   literal-before-a-read = refl;
-  jump-back = refl;
   jump-to-a-write = refl;
+  jump-to-a-write-and-back = refl;
   longer-buffers = refl;
 }
 

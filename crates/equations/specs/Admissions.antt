@@ -110,18 +110,18 @@ pub record Refusal7 : Type 0 where
   pub station-29 : admitOf (firstField 3 ++ camac-4 0x3A000102 ++ halt) 0 0 ≡ refused 7 7
   pub station-30 : admitOf (firstField 3 ++ camac-4 0x3C000102 ++ halt) 2 0 ≡ admitted 1 2 0
   pub station-31 : admitOf (firstField 3 ++ camac-4 0x3E000102 ++ halt) 0 0 ≡ refused 7 7
-  pub station-30-q-mode-0 : admitOf (firstField 3 ++ camac-4 0x3C000102 ++ halt) 2 0 ≡ admitted 1 2 0
-  pub inline-station-30-q-mode-0 : admitOf (firstField 3 ++ camac-8 0x3C100162 0x00000001 ++ halt) 0 0 ≡ admitted 1 0 0
+  pub single-station-30-q-mode-0 : admitOf (firstField 3 ++ camac-4 0x3C000102 ++ halt) 2 0 ≡ admitted 1 2 0
   pub block-station-30-q-mode-0 : admitOf (firstField 3 ++ camac-8 0x3C000122 0xFFFFFFFF ++ halt) 2 0 ≡ admitted 1 2 0
-  pub station-30-q-mode-1 : admitOf (firstField 3 ++ camac-4 0x3C00010A ++ halt) 2 0 ≡ admitted 1 2 0
-  pub inline-station-30-q-mode-1 : admitOf (firstField 3 ++ camac-8 0x3C10016A 0x00000001 ++ halt) 0 0 ≡ admitted 1 0 0
+  pub inline-station-30-q-mode-0 : admitOf (firstField 3 ++ camac-8 0x3C100162 0x00000001 ++ halt) 0 0 ≡ admitted 1 0 0
+  pub single-station-30-q-mode-1 : admitOf (firstField 3 ++ camac-4 0x3C00010A ++ halt) 2 0 ≡ admitted 1 2 0
   pub block-station-30-q-mode-1 : admitOf (firstField 3 ++ camac-8 0x3C00012A 0xFFFFFFFF ++ halt) 2 0 ≡ admitted 1 2 0
-  pub station-30-q-mode-2 : admitOf (firstField 3 ++ camac-4 0x3C000112 ++ halt) 2 0 ≡ admitted 3 2 0
-  pub inline-station-30-q-mode-2 : admitOf (firstField 3 ++ camac-8 0x3C100172 0x00000001 ++ halt) 0 0 ≡ admitted 3 0 0
+  pub inline-station-30-q-mode-1 : admitOf (firstField 3 ++ camac-8 0x3C10016A 0x00000001 ++ halt) 0 0 ≡ admitted 1 0 0
+  pub single-station-30-q-mode-2 : admitOf (firstField 3 ++ camac-4 0x3C000112 ++ halt) 2 0 ≡ admitted 3 2 0
   pub block-station-30-q-mode-2 : admitOf (firstField 3 ++ camac-8 0x3C000132 0xFFFFFFFF ++ halt) 2 0 ≡ admitted 3 2 0
-  pub station-30-q-mode-3 : admitOf (firstField 3 ++ camac-4 0x3C00011A ++ halt) 0 0 ≡ refused 7 7
-  pub inline-station-30-q-mode-3 : admitOf (firstField 3 ++ camac-8 0x3C10017A 0x00000001 ++ halt) 0 0 ≡ refused 7 7
+  pub inline-station-30-q-mode-2 : admitOf (firstField 3 ++ camac-8 0x3C100172 0x00000001 ++ halt) 0 0 ≡ admitted 3 0 0
+  pub single-station-30-q-mode-3 : admitOf (firstField 3 ++ camac-4 0x3C00011A ++ halt) 0 0 ≡ refused 7 7
   pub block-station-30-q-mode-3 : admitOf (firstField 3 ++ camac-8 0x3C00013A 0xFFFFFFFF ++ halt) 0 0 ≡ refused 7 7
+  pub inline-station-30-q-mode-3 : admitOf (firstField 3 ++ camac-8 0x3C10017A 0x00000001 ++ halt) 0 0 ≡ refused 7 7
   pub sequencer-station-24 : admitOf (firstField 3 ++ camac-8 0x300C015A 0xFFFFFFFF ++ halt) 0 0 ≡ refused 7 7
   pub sequencer-station-30 : admitOf (firstField 3 ++ camac-8 0x3C0C015A 0xFFFFFFFF ++ halt) 2 0 ≡ admitted 1 2 0
   pub sequencer-station-31 : admitOf (firstField 3 ++ camac-8 0x3E0C015A 0xFFFFFFFF ++ halt) 0 0 ≡ refused 7 7
@@ -287,18 +287,18 @@ pub record Refusals20And21 : Type 0 where
 
 -- two refusals at once: in a field the order listed for 1 to 9, among fields the first, then 10, 11, 20, 21
 pub record Order : Type 0 where
-  pub cut-before-unknown-tag : admitOf (firstField 3 ++ hex 3 0x550900) 0 0 ≡ refused 1 7
-  pub tag-before-length : admitOf (firstField 3 ++ hex 9 0x5503000000002F0000) 0 0 ≡ refused 3 7
-  pub length-before-zero-bit : admitOf (firstField 3 ++ hex 9 0x1003008601002F0000) 0 0 ≡ refused 4 7
   pub zero-bit-before-crate : admitOf (firstField 3 ++ camac-4 0x02003F06 ++ halt) 0 0 ≡ refused 6 7
   pub zero-bit-before-mode : admitOf (firstField 3 ++ camac-8 0x02000106 0x00000000 ++ halt) 0 0 ≡ refused 6 7
   pub crate-before-mode : admitOf (firstField 3 ++ camac-8 0x02003F02 0x00000000 ++ halt) 0 0 ≡ refused 7 7
   pub mode-before-count : admitOf (firstField 3 ++ camac-8 0x02080122 0x00000000 ++ halt) 0 0 ≡ refused 8 7
-  pub count-before-crate-behind : admitOf (firstField 3 ++ camac-8 0x02000122 0x00000000 ++ camac-4 0x02003F06 ++ halt) 0 0 ≡ refused 9 7
-  pub crate-behind-before-jump : admitOf (firstField 3 ++ jump 9 ++ camac-4 0x02003F06 ++ halt) 0 0 ≡ refused 6 12
+  pub count-before-a-zero-bit-behind : admitOf (firstField 3 ++ camac-8 0x02000122 0x00000000 ++ camac-4 0x02003F06 ++ halt) 0 0 ≡ refused 9 7
+  pub zero-bit-behind-before-jump : admitOf (firstField 3 ++ jump 9 ++ camac-4 0x02003F06 ++ halt) 0 0 ≡ refused 6 12
   pub jump-before-walk : admitOf (firstField 3 ++ jump 0 ++ jump 9 ++ halt) 0 0 ≡ refused 10 12
-  pub first-field-before-others : admitOf (hex 10 0x01040002000300550000) 0 0 ≡ refused 2 0
+  pub cut-before-unknown-tag : admitOf (firstField 3 ++ hex 3 0x550900) 0 0 ≡ refused 1 7
+  pub tag-before-length : admitOf (firstField 3 ++ hex 9 0x5503000000002F0000) 0 0 ≡ refused 3 7
+  pub length-before-zero-bit : admitOf (firstField 3 ++ hex 9 0x1003008601002F0000) 0 0 ≡ refused 4 7
   pub walk-before-incoming : admitOf (firstField 3 ++ camac-4 0x02000102) 0 0 ≡ refused 11 0
+  pub first-field-before-others : admitOf (hex 10 0x01040002000300550000) 0 0 ≡ refused 2 0
 
 -- W: stop, ignore n; repeat n × R; scan min(P, n − 1 + S); over the walk only
 pub record WorstCount : Type 0 where
@@ -338,6 +338,7 @@ pub record Marks : Type 0 where
   pub read-3-of-16-24-2-of-16 :
       admitOf (firstField 3 ++ camac-8 0x02000122 0xFFFFFFFD ++ camac-4 0x02000100 ++ camac-8 0x02000122 0xFFFFFFFE ++ halt) 16 0
       ≡ admitted 6 16 0
+  pub read-16-literal : admitOf (firstField 3 ++ camac-4 0x02000102 ++ literal 0x12345678 ++ halt) 8 0 ≡ admitted 1 8 0
   pub write-24-16 : admitOf (firstField 3 ++ camac-4 0x02100100 ++ camac-4 0x02100102 ++ halt) 0 6 ≡ admitted 2 0 6
   pub write-16-24 : admitOf (firstField 3 ++ camac-4 0x02100102 ++ camac-4 0x02100100 ++ halt) 0 8 ≡ admitted 2 0 8
   pub write-16-24-16-24 : admitOf (firstField 3 ++ camac-4 0x02100102 ++ camac-4 0x02100100 ++ camac-4 0x02100102 ++ camac-4 0x02100100 ++ halt) 0 16
@@ -345,7 +346,6 @@ pub record Marks : Type 0 where
   pub write-3-of-16-24-2-of-16 :
       admitOf (firstField 3 ++ camac-8 0x02100122 0xFFFFFFFD ++ camac-4 0x02100100 ++ camac-8 0x02100122 0xFFFFFFFE ++ halt) 0 16
       ≡ admitted 6 0 16
-  pub one-literal : admitOf (firstField 3 ++ literal 0x12345678 ++ halt) 4 0 ≡ admitted 0 4 0
-  pub read-16-literal : admitOf (firstField 3 ++ camac-4 0x02000102 ++ literal 0x12345678 ++ halt) 8 0 ≡ admitted 1 8 0
   pub write-16-literal : admitOf (firstField 3 ++ camac-4 0x02100102 ++ literal 0x12345678 ++ halt) 4 2 ≡ admitted 1 4 2
+  pub one-literal : admitOf (firstField 3 ++ literal 0x12345678 ++ halt) 4 0 ≡ admitted 0 4 0
   pub control-and-inline : admitOf (firstField 3 ++ camac-4 0x02080102 ++ camac-8 0x02100162 0x00000005 ++ halt) 0 0 ≡ admitted 2 0 0

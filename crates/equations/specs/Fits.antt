@@ -771,14 +771,10 @@ pub record RefusedLists : Type 0 where
       (stateOf (ended 1 1 1 5 3 4 8 2 0x00000000 1 4 4) (hex 3 0x111213) (hex 11 0x8182838485868788898A8B))
       (hex 8 0x0400000000000000)
       ≡ refusedWith 20 0 (stateOf (ended 1 1 1 5 3 4 8 2 0x00000000 1 4 4) (hex 3 0x111213) (hex 11 0x8182838485868788898A8B))
-  pub refusal-1 :
-      stepOf (firstField 3 ++ literal 0xA1B2C3D4 ++ camac-8 0x0A710920 0xFFFFFFFA ++ jump 4 ++ camac-4 0x02000102 ++ hex 2 0x2F00)
-      (stateOf (ended 1 1 1 5 3 4 8 2 0x00000000 1 4 4) (hex 3 0x111213) (hex 12 0x8182838485868788898A8B8C))
-      (hex 8 0x0400000000000000)
-      ≡ refusedWith 1 37 (stateOf (ended 1 1 1 5 3 4 8 2 0x00000000 1 4 4) (hex 3 0x111213) (hex 12 0x8182838485868788898A8B8C))
-  pub refusal-2 :
-      stepOf [] (stateOf (ended 1 1 1 5 3 4 8 2 0x00000000 1 4 4) (hex 4 0x11121314) (hex 12 0x8182838485868788898A8B8C)) (hex 8 0x0400000000000000)
-      ≡ refusedWith 2 0 (stateOf (ended 1 1 1 5 3 4 8 2 0x00000000 1 4 4) (hex 4 0x11121314) (hex 12 0x8182838485868788898A8B8C))
+  pub refusal-1 : stepOf (firstField 3 ++ hex 2 0x2F00) (stateOf (ended 1 1 1 5 3 4 8 2 0x00000000 1 4 4) [] []) (hex 8 0x0400000000000000)
+      ≡ refusedWith 1 7 (stateOf (ended 1 1 1 5 3 4 8 2 0x00000000 1 4 4) [] [])
+  pub refusal-2 : stepOf (firstField 0) (stateOf (ended 1 1 1 5 3 4 8 2 0x00000000 1 4 4) [] []) (hex 8 0x0400000000000000)
+      ≡ refusedWith 2 0 (stateOf (ended 1 1 1 5 3 4 8 2 0x00000000 1 4 4) [] [])
   pub refusal-3 : stepOf (firstField 3 ++ halt ++ hex 3 0x550000) (stateOf (ended 1 1 1 5 3 4 8 2 0x00000000 1 4 4) [] []) (hex 8 0x0400000000000000)
       ≡ refusedWith 3 10 (stateOf (ended 1 1 1 5 3 4 8 2 0x00000000 1 4 4) [] [])
   pub refusal-4 :

@@ -27,7 +27,6 @@ end-codes-4 = runOf (firstField 2 ++ camac-4 0x02000102 ++ camac-8 0x2FA00122 0x
 pub record EndCodes : Type 0 where
   pub code-0 : end-codes-0 (answer (Q + X) 0x001122 ++ answer (Q + X) 0x003344)
       ≡ ran 0 0 2 (stateOf (ended 2 0 0 0 0 4 0 2 0x00000080 0 2 2) (hex 4 0x22114433) [])
-  pub code-0-halt-alone : runOf (firstField 2 ++ halt) [] [] [] ≡ ran 0 0 0 (stateOf (ended 0 0 0 0 0 0 0 0 0x00000080 0 0 0) [] [])
   pub code-4 : end-codes-1 (answer (Q + X) 0x001122 ++ answer (Q + X) 0x003344 ++ answer (Q + X + ERR) 0x000005)
       ≡ ran 0 0 3 (stateOf (ended 1 0 0 0 0 4 0 3 0x40840080 0 2 2) (hex 6 0x221144331516) [])
   pub code-4-in-scan : end-codes-2 (answer (Q + X) 0x001122 ++ answer (Q + X) 0x003344 ++ answer (Q + X + ERR) 0x000005)
@@ -51,13 +50,14 @@ pub record EndCodes : Type 0 where
       ≡ ran 0 0 3 (stateOf (ended 1 0 0 0 0 4 0 3 0xB2000080 0 2 2) (hex 6 0x221144331516) [])
   pub code-B-tries-spent : end-codes-3 (answer (Q + X) 0x001122 ++ answer (Q + X) 0x003344 ++ answer X 0x005566 ++ answer X 0x005566)
       ≡ ran 0 0 4 (stateOf (ended 1 0 0 0 0 4 0 4 0xB2010080 0 2 2) (hex 6 0x221144331516) [])
-  pub code-B-tries-of-each-word :
+  pub code-0-tries-of-each-word :
       end-codes-3 (answer (Q + X) 0x001122 ++ answer X 0x005566 ++ answer (Q + X) 0x003344 ++ answer X 0x005566 ++ answer (Q + X) 0x003344)
       ≡ ran 0 0 5 (stateOf (ended 2 0 0 0 0 6 0 5 0x00010080 0 4 2) (hex 6 0x221144334433) [])
   pub code-C : end-codes-4 (answer (Q + X) 0x001122 ++ answer (Q + X) 0x003344 ++ kind 2)
       ≡ ran 0 0 3 (stateOf (ended 1 0 0 0 0 4 0 3 0xC0080080 0 2 2) (hex 6 0x221144331516) [])
   pub code-D : end-codes-4 (answer (Q + X) 0x001122 ++ answer (Q + X) 0x003344 ++ kind 3)
       ≡ ran 0 0 3 (stateOf (ended 1 0 0 0 0 4 0 3 0xD1000080 0 2 2) (hex 6 0x221144331516) [])
+  pub code-0-halt-alone : runOf (firstField 2 ++ halt) [] [] [] ≡ ran 0 0 0 (stateOf (ended 0 0 0 0 0 0 0 0 0x00000080 0 0 0) [] [])
 
 -- rows of no reply, of fewer than the run takes, of as many, of more; rows with a part of 8 bytes
 abbrev pub rows-0 : List ℕ → RunThrough

@@ -197,49 +197,26 @@ fn addresses() -> Group {
         group.add(&format!("crate-{crate_number}"), alone(word.field(None)));
     }
     for n in [0, 1, 23, 24, 29, 30, 31] {
-        let word = Word { n, ..Word::K1 };
+        let word = Word::K1.at(n, 0);
         group.add(&format!("station-{n}"), alone(word.field(None)));
     }
     for q_mode in 0..4 {
-        let word = Word {
-            n: 30,
-            q_mode,
-            ..Word::K1
-        };
-        group.add(
-            &format!("station-30-q-mode-{q_mode}"),
-            alone(word.field(None)),
-        );
-        let inline = Word {
-            mode: 3,
-            f: 16,
-            ..word
-        };
-        group.add(
-            &format!("inline-station-30-q-mode-{q_mode}"),
-            alone(inline.field(Some(1))),
-        );
-        let block = Word { mode: 1, ..word };
-        group.add(
-            &format!("block-station-30-q-mode-{q_mode}"),
-            alone(block.of_halfwords(1)),
-        );
+        let of = |mode, f| Word::of(mode, q_mode).at(30, 0).f(f);
+        let fields = [
+            ("single", of(0, 0).field(None)),
+            ("block", of(1, 0).of_halfwords(1)),
+            ("inline", of(3, 16).field(Some(1))),
+        ];
+        for (name, field) in fields {
+            let name = format!("{name}-station-30-q-mode-{q_mode}");
+            group.add(&name, alone(field));
+        }
     }
     for n in [24, 30, 31] {
-        let word = Word {
-            n,
-            f: 12,
-            mode: 2,
-            q_mode: 3,
-            ..Word::K1
-        };
-        group.add(
-            &format!("sequencer-station-{n}"),
-            alone(word.of_halfwords(1)),
-        );
+        let field = Word::of(2, 3).at(n, 0).f(12).of_halfwords(1);
+        group.add(&format!("sequencer-station-{n}"), alone(field));
     }
-    let word = Word { n: 24, ..Word::K1 };
-    group.add("unreached", unreached(word.field(None)));
+    group.add("unreached", unreached(Word::K1.at(24, 0).field(None)));
     group
 }
 
@@ -317,49 +294,25 @@ fn second_longwords() -> Group {
                  above the word size; scan with n above P";
     let mut group = Group::new("refusal-9", about);
     for (mode, name) in [(1, "block"), (2, "enhanced")] {
-        let word = |wide| Word {
-            mode,
-            wide,
-            ..Word::K1
-        };
+        let word = Word::of(mode, 0);
         for h in [0, 1, 65_537] {
-            group.add(
-                &format!("{name}-16-h-{h}"),
-                alone(word(false).of_halfwords(h)),
-            );
+            let name = format!("{name}-16-h-{h}");
+            group.add(&name, alone(word.of_halfwords(h)));
         }
         for h in [0, 1, 2, 3, 65_535, 65_537, 65_538] {
-            group.add(
-                &format!("{name}-24-h-{h}"),
-                alone(word(true).of_halfwords(h)),
-            );
+            let name = format!("{name}-24-h-{h}");
+            group.add(&name, alone(word.wide(true).of_halfwords(h)));
         }
     }
-    let block = Word {
-        mode: 1,
-        ..Word::K1
-    };
+    let block = Word::of(1, 0);
     group.add("block-16-h-65536", alone(block.of_halfwords(65_536)));
     group.add("block-second-longword-1", alone(block.field(Some(1))));
-    for (wide, data) in [
-        (false, 0xFFFF),
-        (false, 0x1_0000),
-        (false, 0x8000_0000),
-        (true, 0xFF_FFFF),
-        (true, 0x100_0000),
-        (true, 0x8000_0000),
-    ] {
-        let inline = Word {
-            mode: 3,
-            f: 16,
-            wide,
-            ..Word::K1
-        };
-        let bits = if wide { 24 } else { 16 };
-        group.add(
-            &format!("inline-{bits}-word-{data:X}"),
-            alone(inline.field(Some(data))),
-        );
+    for (wide, bits) in [(false, 16), (true, 24)] {
+        let inline = Word::of(3, 0).f(16).wide(wide);
+        for data in [(1 << bits) - 1, 1 << bits, 1 << 31] {
+            let name = format!("inline-{bits}-word-{data:X}");
+            group.add(&name, alone(inline.field(Some(data))));
+        }
     }
     add_scans(&mut group);
     group
@@ -369,39 +322,16 @@ fn second_longwords() -> Group {
 fn add_scans(group: &mut Group) {
     for (n, a) in [(23, 15), (23, 14), (23, 0), (22, 14)] {
         let positions = (23 - n) * 16 + 16 - a;
-        let scan = Word {
-            n,
-            a,
-            mode: 1,
-            q_mode: 3,
-            ..Word::K1
-        };
         for words in [positions, positions + 1] {
-            group.add(
-                &format!("scan-{n}-{a}-words-{words}"),
-                alone(scan.of_halfwords(words)),
-            );
+            let field = Word::of(1, 3).at(n, a).of_halfwords(words);
+            group.add(&format!("scan-{n}-{a}-words-{words}"), alone(field));
         }
     }
-    let sequencer = Word {
-        n: 30,
-        a: 0,
-        f: 12,
-        mode: 2,
-        q_mode: 3,
-        ..Word::K1
-    };
     for words in [0, 1, 369] {
-        group.add(
-            &format!("sequencer-words-{words}"),
-            alone(sequencer.of_halfwords(words)),
-        );
+        let field = Word::of(2, 3).at(30, 0).f(12).of_halfwords(words);
+        group.add(&format!("sequencer-words-{words}"), alone(field));
     }
-    let block = Word {
-        mode: 1,
-        ..Word::K1
-    };
-    group.add("unreached", unreached(block.of_halfwords(0)));
+    group.add("unreached", unreached(Word::of(1, 0).of_halfwords(0)));
 }
 
 fn jumps() -> Group {
@@ -488,83 +418,64 @@ fn order() -> Group {
     let about = "two refusals at once: in a field the order listed for 1 to 9, among fields the \
                  first, then 10, 11, 20, 21";
     let mut group = Group::new("order", about);
-    let first = |bits: u32| Word::K1.longword() | bits;
-    let camac = DraftField::camac;
-    let of = |fields: Vec<DraftField>| exact(list(3, fields));
-    let bad_7 = || camac(first(1 << 2 | 0x3F00), None);
-    group.add("cut-before-unknown-tag", behind_first("55 09 00"));
-    group.add(
-        "tag-before-length",
-        behind_first("55 03 00 00 00 00 2F 00 00"),
-    );
-    group.add(
-        "length-before-zero-bit",
-        behind_first("10 03 00 86 01 00 2F 00 00"),
-    );
-    group.add("zero-bit-before-crate", of(vec![bad_7()]));
-    group.add(
-        "zero-bit-before-mode",
-        of(vec![camac(first(1 << 2), Some(0))]),
-    );
-    group.add("crate-before-mode", of(vec![camac(first(0x3F00), Some(0))]));
-    let control = camac(first(1 << 5 | 8 << 16), Some(0));
-    group.add("mode-before-count", of(vec![control.clone()]));
-    group.add(
-        "count-before-crate-behind",
-        of(vec![camac(first(1 << 5), Some(0)), bad_7()]),
-    );
-    group.add(
-        "crate-behind-before-jump",
-        of(vec![DraftField::jump(9), bad_7()]),
-    );
-    group.add(
-        "jump-before-walk",
-        of(vec![DraftField::jump(0), DraftField::jump(9)]),
-    );
-    group.add(
-        "first-field-before-others",
-        exact(hex("01 04 00 02 00 03 00 55 00 00")),
-    );
-    group.add(
-        "walk-before-incoming",
-        exact(Draft::new(3, vec![Word::K1.field(None)]).bytes()),
-    );
+    let camac = |bits: u32, second| DraftField::camac(Word::K1.longword() | bits, second);
+    let jump = DraftField::jump;
+    let (zero_bit, bad_crate, control) = (1 << 2, 0x3F00, 1 << 5 | 8 << 16);
+    let both = || camac(zero_bit | bad_crate, None);
+    let rows = [
+        ("zero-bit-before-crate", vec![both()]),
+        ("zero-bit-before-mode", vec![camac(zero_bit, Some(0))]),
+        ("crate-before-mode", vec![camac(bad_crate, Some(0))]),
+        ("mode-before-count", vec![camac(control, Some(0))]),
+        (
+            "count-before-a-zero-bit-behind",
+            vec![camac(1 << 5, Some(0)), both()],
+        ),
+        ("zero-bit-behind-before-jump", vec![jump(9), both()]),
+        ("jump-before-walk", vec![jump(0), jump(9)]),
+    ];
+    for (name, fields) in rows {
+        group.add(name, exact(list(3, fields)));
+    }
+    let texts = [
+        ("cut-before-unknown-tag", "55 09 00"),
+        ("tag-before-length", "55 03 00 00 00 00 2F 00 00"),
+        ("length-before-zero-bit", "10 03 00 86 01 00 2F 00 00"),
+        ("walk-before-incoming", "10 04 00 02 01 00 02"),
+    ];
+    for (name, text) in texts {
+        group.add(name, behind_first(text));
+    }
+    let others = hex("01 04 00 02 00 03 00 55 00 00");
+    group.add("first-field-before-others", exact(others));
     group
 }
 
 fn worst_counts() -> Group {
     let about = "W: stop, ignore n; repeat n × R; scan min(P, n − 1 + S); over the walk only";
     let mut group = Group::new("worst-count", about);
-    let block = |q_mode, mode| Word {
-        mode,
-        q_mode,
-        n: 21,
-        a: 13,
-        ..Word::K1
-    };
+    let word = |mode, q_mode| Word::of(mode, q_mode).at(21, 13);
     for (q_mode, name) in (0..4).zip(["stop", "ignore", "repeat", "scan"]) {
         for words in [1, 2, 5] {
-            let field = block(q_mode, 1).of_halfwords(words);
+            let field = word(1, q_mode).of_halfwords(words);
             group.add(&format!("{name}-words-{words}"), alone(field));
         }
-        let field = block(q_mode, 0).field(None);
+        let field = word(0, q_mode).field(None);
         group.add(&format!("{name}-single"), alone(field));
     }
     for words in [32, 33, 34, 35] {
-        let field = block(3, 1).of_halfwords(words);
+        let field = word(1, 3).of_halfwords(words);
         group.add(&format!("scan-words-{words}"), alone(field));
     }
     for limit in [1, 2, 65_535] {
-        let fields = vec![block(2, 1).of_halfwords(3), block(2, 2).of_halfwords(2)];
-        group.add(
-            &format!("repeat-try-limit-{limit}"),
-            exact(list(limit, fields)),
-        );
+        let fields = vec![word(1, 2).of_halfwords(3), word(2, 2).of_halfwords(2)];
+        let name = format!("repeat-try-limit-{limit}");
+        group.add(&name, exact(list(limit, fields)));
     }
     let fields = vec![
         DraftField::jump(2),
-        block(0, 1).of_halfwords(4),
-        block(1, 1).of_halfwords(2),
+        word(1, 0).of_halfwords(4),
+        word(1, 1).of_halfwords(2),
     ];
     group.add("over-the-walk-only", exact(list(3, fields)));
     group
@@ -574,60 +485,30 @@ fn marks() -> Group {
     let about =
         "B and O: words of 16 and 24 bits and literals with their pads, none behind the last word";
     let mut group = Group::new("marks", about);
-    let read = |wide| Word { wide, ..Word::K1 };
-    let write = |wide| Word {
-        wide,
-        f: 16,
-        ..Word::K1
-    };
-    let of = |fields: Vec<DraftField>| exact(list(3, fields));
-    for (name, word) in [
-        ("read", read as fn(bool) -> Word),
-        ("write", write as fn(bool) -> Word),
-    ] {
-        let single = |wide| word(wide).field(None);
-        let halfwords = |h| {
-            Word {
-                mode: 1,
-                ..word(false)
-            }
-            .of_halfwords(h)
-        };
-        group.add(
-            &format!("{name}-24-16"),
-            of(vec![single(true), single(false)]),
-        );
-        group.add(
-            &format!("{name}-16-24"),
-            of(vec![single(false), single(true)]),
-        );
-        group.add(
-            &format!("{name}-16-24-16-24"),
-            of([false, true, false, true].map(single).to_vec()),
-        );
-        group.add(
-            &format!("{name}-3-of-16-24-2-of-16"),
-            of(vec![halfwords(3), single(true), halfwords(2)]),
-        );
-    }
     let literal = || DraftField::literal(0x1234_5678);
-    group.add("one-literal", of(vec![literal()]));
-    group.add(
-        "read-16-literal",
-        of(vec![read(false).field(None), literal()]),
-    );
-    group.add(
-        "write-16-literal",
-        of(vec![write(false).field(None), literal()]),
-    );
-    let control = Word { f: 8, ..Word::K1 }.field(None);
-    let inline = Word {
-        mode: 3,
-        ..write(false)
-    };
-    group.add(
-        "control-and-inline",
-        of(vec![control, inline.field(Some(5))]),
-    );
+    for (name, f) in [("read", 0), ("write", 16)] {
+        let single = |wide| Word::K1.f(f).wide(wide).field(None);
+        let halfwords = |h| Word::of(1, 0).f(f).of_halfwords(h);
+        let rows = [
+            ("24-16", vec![single(true), single(false)]),
+            ("16-24", vec![single(false), single(true)]),
+            (
+                "16-24-16-24",
+                [false, true, false, true].map(single).to_vec(),
+            ),
+            (
+                "3-of-16-24-2-of-16",
+                vec![halfwords(3), single(true), halfwords(2)],
+            ),
+            ("16-literal", vec![single(false), literal()]),
+        ];
+        for (order, fields) in rows {
+            group.add(&format!("{name}-{order}"), exact(list(3, fields)));
+        }
+    }
+    group.add("one-literal", alone(literal()));
+    let control = Word::K1.f(8).field(None);
+    let inline = Word::of(3, 0).f(16).field(Some(5));
+    group.add("control-and-inline", exact(list(3, vec![control, inline])));
     group
 }

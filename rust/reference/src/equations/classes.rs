@@ -252,24 +252,12 @@ impl Met {
                 incoming_len,
                 outgoing_len,
             } => self.observe_admission(list, (*incoming_len, *outgoing_len)),
-            Call::Fields { before, fields } => {
-                let (list, place) = super::admissions::behind_halts(*before, fields);
-                if let Err(refusal) = admit(&list, 0, 0) {
-                    let inside = refusal.place >= place;
-                    self.met_if(inside, Class::Refused(Entry::Fields, refusal.number));
-                }
-            }
+            Call::Fields { before, fields } => self.observe_fields(*before, fields),
             Call::Start {
                 list,
                 incoming,
                 outgoing,
-            } => {
-                let (answer, _) = started(list, incoming, outgoing);
-                self.observe_refusal(Entry::Start, answer.refusal);
-                let ended = answer.refusal.is_none() && answer.record.ended;
-                let code = status::code(answer.record.status);
-                self.met_if(ended, Class::Ended(Entry::Start, code));
-            }
+            } => self.observe_start(list, (incoming, outgoing)),
             Call::Step {
                 list,
                 record,
@@ -296,6 +284,22 @@ impl Met {
             self.met(Class::Refused(entry, number));
             self.met_if(place > 7, Class::RefusedBehind(number));
         }
+    }
+
+    fn observe_fields(&mut self, before: usize, fields: &[u8]) {
+        let (list, place) = super::admissions::behind_halts(before, fields);
+        if let Err(refusal) = admit(&list, 0, 0) {
+            let inside = refusal.place >= place;
+            self.met_if(inside, Class::Refused(Entry::Fields, refusal.number));
+        }
+    }
+
+    fn observe_start(&mut self, list: &[u8], buffers: (&[u8], &[u8])) {
+        let (answer, _) = started(list, buffers.0, buffers.1);
+        self.observe_refusal(Entry::Start, answer.refusal);
+        let ended = answer.refusal.is_none() && answer.record.ended;
+        let code = status::code(answer.record.status);
+        self.met_if(ended, Class::Ended(Entry::Start, code));
     }
 
     fn observe_admission(&mut self, list: &[u8], lengths: (u64, u64)) {

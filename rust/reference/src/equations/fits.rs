@@ -3,7 +3,7 @@
 use std::collections::BTreeSet;
 
 use super::bounds::{bounds_at, Bound, Change};
-use super::instructions::{filled, Kind, Word};
+use super::instructions::{filled, refused_lists, Kind, Word};
 use super::{Call, Group, Module};
 use crate::cases::by_hand::{answer, hex, ok, Q, X};
 use crate::cases::coverage::Mode;
@@ -175,24 +175,11 @@ fn statuses() -> Group {
     group
 }
 
-/// Notes: zeros, two or four bytes of a buffer below its mark, and others.
-fn notes() -> Group {
-    let about = "note: zeros, or two or four bytes of its buffer below that buffer's mark";
-    let mut group = Group::new("notes", about);
-    let list = Draft::new(
-        TRY_LIMIT,
-        vec![
-            Word::K1.field(None),
-            Word {
-                f: 16,
-                wide: true,
-                ..Word::K1
-            }
-            .field(None),
-            Word::K1.field(None),
-            DraftField::halt(),
-        ],
-    );
+/// Before the third of three singles, with incoming mark 2 and outgoing mark 4.
+fn third_word() -> Place {
+    let single = || Word::K1.field(None);
+    let write = Word::K1.f(16).wide(true).field(None);
+    let fields = vec![single(), write, single(), DraftField::halt()];
     let record = Record {
         instruction: 2,
         words_left: 1,
@@ -202,25 +189,34 @@ fn notes() -> Group {
         operations: 2,
         ..Record::default()
     };
-    let place = Place {
+    Place {
         name: "notes".to_string(),
-        list: list.bytes(),
+        list: Draft::new(TRY_LIMIT, fields).bytes(),
         record,
-    };
-    for buffer in 0..3 {
-        for length in 0..6 {
-            for offset in 0..3 {
-                let note = Note {
-                    buffer,
-                    offset,
-                    length,
-                };
-                let record = Record { note, ..record };
-                let is_telling = fits(&place.admitted(), &record) || offset + length < 5;
-                if is_telling && (buffer < 2 || offset == 0) {
-                    let name = format!("buffer-{buffer}-offset-{offset}-length-{length}");
-                    group.add(&name, place.step(record, &ok(0x34_5678)));
-                }
+    }
+}
+
+/// Notes: zeros, two or four bytes of a buffer below its mark, and others.
+fn notes() -> Group {
+    let about = "note: zeros, or two or four bytes of its buffer below that buffer's mark";
+    let mut group = Group::new("notes", about);
+    let place = third_word();
+    let lengths = (0..3).flat_map(|buffer| (0..6).map(move |length| (buffer, length)));
+    for (buffer, length) in lengths {
+        for offset in 0..3 {
+            let note = Note {
+                buffer,
+                offset,
+                length,
+            };
+            let record = Record {
+                note,
+                ..place.record
+            };
+            let is_telling = fits(&place.admitted(), &record) || offset + length < 5;
+            if is_telling && (buffer < 2 || offset == 0) {
+                let name = format!("buffer-{buffer}-offset-{offset}-length-{length}");
+                group.add(&name, place.step(record, &ok(0x34_5678)));
             }
         }
     }
@@ -311,25 +307,11 @@ fn order_of_lists() -> Group {
     let (list, b, o) = (&place.list, counts.b, counts.o);
     group.add("refusal-21", with(list, b, o - 1));
     group.add("refusal-20", with(list, b - 1, o - 1));
-    group.add("refusal-1", with(&list[..list.len() - 1], b - 1, o));
-    group.add("refusal-2", with(&[], b, o));
-    for (name, text) in REFUSED {
-        group.add(name, with(&crate::cases::by_hand::list(text), 0, 0));
+    for (name, list) in refused_lists().into_iter().take(10) {
+        group.add(name, with(&list, 0, 0));
     }
     group
 }
-
-/// Lists with a refusal each, behind the first field.
-const REFUSED: [(&str, &str); 8] = [
-    ("refusal-3", "2F 00 00 55 00 00"),
-    ("refusal-4", "2F 00 00 2F 01 00 00"),
-    ("refusal-6", "10 04 00 06 01 00 02 2F 00 00"),
-    ("refusal-7", "10 04 00 02 00 00 02 2F 00 00"),
-    ("refusal-8", "10 04 00 22 01 00 02 2F 00 00"),
-    ("refusal-9", "10 08 00 22 01 00 02 00 00 00 00 2F 00 00"),
-    ("refusal-10", "2F 00 00 20 02 00 02 00"),
-    ("refusal-11", "20 02 00 00 00"),
-];
 
 /// Replies that aren't formed as they should be, and those next to them that are.
 fn replies() -> Group {

@@ -1,5 +1,6 @@
 //! CAMAC instructions of every kind, for lists written by hand.
 
+use crate::cases::by_hand::{self, hex};
 use crate::cases::coverage::Mode;
 use crate::cases::lists::{Draft, DraftField};
 use crate::words::Direction;
@@ -177,6 +178,30 @@ impl Word {
         ad: false,
     };
 
+    /// K1 in another transfer mode, with another Q-mode.
+    pub const fn of(mode: u32, q_mode: u32) -> Word {
+        Word {
+            mode,
+            q_mode,
+            ..Word::K1
+        }
+    }
+
+    /// With another function.
+    pub const fn f(self, f: u32) -> Word {
+        Word { f, ..self }
+    }
+
+    /// At another station and subaddress.
+    pub const fn at(self, n: u32, a: u32) -> Word {
+        Word { n, a, ..self }
+    }
+
+    /// Of 24 bits, or of 16.
+    pub const fn wide(self, wide: bool) -> Word {
+        Word { wide, ..self }
+    }
+
     pub fn longword(&self) -> u32 {
         let size = u32::from(!self.wide) << 1;
         let address = self.n << 25 | self.a << 21 | self.f << 16 | self.crate_number << 8;
@@ -197,6 +222,29 @@ impl Word {
 pub fn list(try_limit: u16, mut fields: Vec<DraftField>) -> Vec<u8> {
     fields.push(DraftField::halt());
     Draft::new(try_limit, fields).bytes()
+}
+
+/// A list for each refusal that a list alone brings, but for 5; and two whose words no buffer
+/// of three incoming bytes and one outgoing byte holds.
+pub fn refused_lists() -> [(&'static str, Vec<u8>); 12] {
+    let behind = by_hand::list;
+    [
+        ("refusal-1", behind("2F 00")),
+        ("refusal-2", hex("01 04 00 01 00 00 00")),
+        ("refusal-3", behind("2F 00 00 55 00 00")),
+        ("refusal-4", behind("2F 00 00 2F 01 00 00")),
+        ("refusal-6", behind("10 04 00 06 01 00 02 2F 00 00")),
+        ("refusal-7", behind("10 04 00 02 00 00 02 2F 00 00")),
+        ("refusal-8", behind("10 04 00 22 01 00 02 2F 00 00")),
+        (
+            "refusal-9",
+            behind("10 08 00 22 01 00 02 00 00 00 00 2F 00 00"),
+        ),
+        ("refusal-10", behind("2F 00 00 20 02 00 02 00")),
+        ("refusal-11", behind("20 02 00 00 00")),
+        ("refusal-20", behind("21 04 00 01 02 03 04 2F 00 00")),
+        ("refusal-21", behind("10 04 00 02 01 10 02 2F 00 00")),
+    ]
 }
 
 /// So many bytes, no two alike, none zero.

@@ -250,39 +250,22 @@ fn sides(call: &Call) -> (Vec<String>, String) {
             outgoing_len,
         } => {
             let call = format!("admitOf {} {incoming_len} {outgoing_len}", fields(list));
-            (
-                vec![call],
-                admission(admit(list, *incoming_len, *outgoing_len)),
-            )
+            let answer = admit(list, *incoming_len, *outgoing_len);
+            (vec![call], admission(answer))
         }
         Call::Fields { before, fields } => fields_read(*before, fields),
         Call::Start {
             list,
             incoming,
             outgoing,
-        } => {
-            let call = vec![
-                format!("startOf {}", fields(list)),
-                format!("{} {}", hex(incoming), hex(outgoing)),
-            ];
-            let (answer, after) = started(list, incoming, outgoing);
-            (call, called(&answer, (&after, outgoing)))
-        }
+        } => start_sides(list, (incoming, outgoing)),
         Call::Step {
             list,
             record,
             incoming,
             outgoing,
             reply,
-        } => {
-            let call = vec![
-                format!("stepOf {}", fields(list)),
-                state(record, (incoming, outgoing)),
-                one_reply(reply),
-            ];
-            let (answer, after) = stepped(list, record, (incoming, outgoing), reply);
-            (call, called(&answer, (&after, outgoing)))
-        }
+        } => step_sides(list, record, (incoming, outgoing), reply),
         Call::Run {
             list,
             incoming,
@@ -295,6 +278,30 @@ fn sides(call: &Call) -> (Vec<String>, String) {
             outgoing,
         } => last_word(note, incoming, outgoing),
     }
+}
+
+fn start_sides(list: &[u8], buffers: (&[u8], &[u8])) -> (Vec<String>, String) {
+    let call = vec![
+        format!("startOf {}", fields(list)),
+        format!("{} {}", hex(buffers.0), hex(buffers.1)),
+    ];
+    let (answer, after) = started(list, buffers.0, buffers.1);
+    (call, called(&answer, (&after, buffers.1)))
+}
+
+fn step_sides(
+    list: &[u8],
+    record: &Record,
+    buffers: (&[u8], &[u8]),
+    reply: &[u8],
+) -> (Vec<String>, String) {
+    let call = vec![
+        format!("stepOf {}", fields(list)),
+        state(record, buffers),
+        one_reply(reply),
+    ];
+    let (answer, after) = stepped(list, record, buffers, reply);
+    (call, called(&answer, (&after, buffers.1)))
 }
 
 fn admission(answer: Result<Counts, Refusal>) -> String {

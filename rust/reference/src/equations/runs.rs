@@ -2,7 +2,7 @@
 //! short blocks and the worst count; then runs of the random generator.
 
 use super::classes::Met;
-use super::instructions::{filled, list, Kind, Word};
+use super::instructions::{filled, list, refused_lists, Kind, Word};
 use super::{Call, Group, Module};
 use crate::cases::by_hand::{answer, hex, kind, ok, DERR, ERR, LPE, Q, TPE, X};
 use crate::cases::case;
@@ -39,58 +39,47 @@ pub fn exact(list: Vec<u8>, row: Vec<u8>) -> Call {
 }
 
 fn read(q_mode: u32, mode: u32) -> Word {
-    Word {
-        q_mode,
-        mode,
-        n: 23,
-        a: 13,
-        ..Word::K1
-    }
+    Word::of(mode, q_mode).at(23, 13)
+}
+
+/// A word read, then a single, or a block of two words; one good reply comes first.
+fn behind_a_word(word: Word, replies: &[[u8; 8]]) -> Call {
+    let second = (word.mode == 1).then_some(2_u32.wrapping_neg());
+    let fields = vec![Word::K1.field(None), word.field(second)];
+    let row = [vec![ok(0x1122)], replies.to_vec()].concat().concat();
+    exact(list(2, fields), row)
 }
 
 fn end_codes() -> Group {
-    let about = "each end code, behind a word that was moved";
-    let mut group = Group::new("end-codes", about);
-    let of = |word: Word, replies: &[[u8; 8]]| {
-        let second = (word.mode == 1).then_some(2_u32.wrapping_neg());
-        let fields = vec![Word::K1.field(None), word.field(second)];
-        let row = [vec![ok(0x1122)], replies.to_vec()].concat().concat();
-        exact(list(2, fields), row)
-    };
-    let good = ok(0x3344);
-    let no_q = answer(X, 0x5566);
-    group.add("code-0", of(read(0, 0), &[good]));
+    let mut group = Group::new("end-codes", "each end code, behind a word that was moved");
+    let (good, no_q) = (ok(0x3344), answer(X, 0x5566));
+    let bad = |bits| answer(bits, 5);
+    let (stop, repeat, scan) = (read(0, 1), read(2, 1), read(3, 1));
+    let ends: [(&str, Word, &[[u8; 8]]); 15] = [
+        ("code-0", read(0, 0), &[good]),
+        ("code-4", read(1, 1), &[good, bad(Q | X | ERR)]),
+        ("code-4-in-scan", scan, &[good, bad(Q | X | ERR)]),
+        ("code-7", read(0, 0), &[no_q]),
+        ("code-8", read(1, 1), &[good, bad(Q)]),
+        ("code-8-in-repeat", repeat, &[no_q, bad(Q)]),
+        ("code-9-skipping", scan, &[good, no_q]),
+        ("code-9-single", read(3, 0).at(23, 15), &[no_q]),
+        ("code-A-tpe", read(1, 1), &[good, bad(Q | X | TPE)]),
+        ("code-A-lpe", repeat, &[good, bad(Q | X | LPE)]),
+        ("code-B-timeout", stop, &[good, kind(1)]),
+        ("code-B-tries-spent", repeat, &[good, no_q, no_q]),
+        (
+            "code-0-tries-of-each-word",
+            repeat,
+            &[no_q, good, no_q, good],
+        ),
+        ("code-C", stop, &[good, kind(2)]),
+        ("code-D", stop, &[good, kind(3)]),
+    ];
+    for (name, word, replies) in ends {
+        group.add(name, behind_a_word(word, replies));
+    }
     group.add("code-0-halt-alone", exact(list(2, vec![]), Vec::new()));
-    group.add("code-4", of(read(1, 1), &[good, answer(Q | X | ERR, 5)]));
-    group.add(
-        "code-4-in-scan",
-        of(read(3, 1), &[good, answer(X | ERR | Q, 5)]),
-    );
-    group.add("code-7", of(read(0, 0), &[no_q]));
-    group.add("code-8", of(read(1, 1), &[good, answer(Q, 5)]));
-    group.add("code-8-in-repeat", of(read(2, 1), &[no_q, answer(Q, 5)]));
-    group.add("code-9-skipping", of(read(3, 1), &[good, no_q]));
-    let at_last = Word {
-        a: 15,
-        ..read(3, 0)
-    };
-    group.add("code-9-single", of(at_last, &[no_q]));
-    group.add(
-        "code-A-tpe",
-        of(read(1, 1), &[good, answer(Q | X | TPE, 5)]),
-    );
-    group.add(
-        "code-A-lpe",
-        of(read(2, 1), &[good, answer(Q | X | LPE, 5)]),
-    );
-    group.add("code-B-timeout", of(read(0, 1), &[good, kind(1)]));
-    group.add("code-B-tries-spent", of(read(2, 1), &[good, no_q, no_q]));
-    group.add(
-        "code-B-tries-of-each-word",
-        of(read(2, 1), &[no_q, good, no_q, good]),
-    );
-    group.add("code-C", of(read(0, 1), &[good, kind(2)]));
-    group.add("code-D", of(read(0, 1), &[good, kind(3)]));
     group
 }
 
@@ -148,70 +137,58 @@ fn bad_rows() -> Group {
     group
 }
 
+/// The orders of 16-bit and 24-bit words that are moved, with their names.
+const ORDERS: [(&str, &[bool]); 5] = [
+    ("16-24", &[false, true]),
+    ("24-16", &[true, false]),
+    ("16-16-24", &[false, false, true]),
+    ("16-24-16-24", &[false, true, false, true]),
+    ("24-24-16", &[true, true, false]),
+];
+
+/// A single in ignore with AD = 1.
+fn single(f: u32, wide: bool) -> Word {
+    Word {
+        ad: true,
+        ..Word::of(0, 1).f(f).wide(wide)
+    }
+}
+
+fn literal() -> DraftField {
+    DraftField::literal(0xA1B2_C3D4)
+}
+
 fn packing() -> Group {
     let about = "words and literals in the buffers: pads, marks and notes; Q and X above a stored 24-bit word";
     let mut group = Group::new("packing", about);
-    let word = |f, wide| Word {
-        f,
-        wide,
-        q_mode: 1,
-        ad: true,
-        ..Word::K1
-    };
-    let literal = || DraftField::literal(0xA1B2_C3D4);
-    let orders: [(&str, &[bool]); 5] = [
-        ("16-24", &[false, true]),
-        ("24-16", &[true, false]),
-        ("16-16-24", &[false, false, true]),
-        ("16-24-16-24", &[false, true, false, true]),
-        ("24-24-16", &[true, true, false]),
-    ];
+    let good = ok(0xF1_E2D3);
+    let field = |f, wide| single(f, wide).field(None);
     for (f, way) in [(0, "read"), (16, "write")] {
-        for (name, sizes) in orders {
-            let fields = sizes
-                .iter()
-                .map(|&wide| word(f, wide).field(None))
-                .collect();
-            let row = ok(0xF1_E2D3).repeat(sizes.len());
-            group.add(&format!("{way}-{name}"), exact(list(3, fields), row));
+        for (name, sizes) in ORDERS {
+            let fields = sizes.iter().map(|&wide| field(f, wide)).collect();
+            let call = exact(list(3, fields), good.repeat(sizes.len()));
+            group.add(&format!("{way}-{name}"), call);
         }
-        let fields = vec![
-            word(f, false).field(None),
-            literal(),
-            word(f, false).field(None),
-            literal(),
-        ];
-        group.add(
-            &format!("{way}-16-literal-16-literal"),
-            exact(list(3, fields), ok(0xF1_E2D3).repeat(2)),
-        );
+        let fields = vec![field(f, false), literal(), field(f, false), literal()];
+        let call = exact(list(3, fields), good.repeat(2));
+        group.add(&format!("{way}-16-literal-16-literal"), call);
     }
-    let fields = vec![
-        word(0, false).field(None),
-        word(16, false).field(None),
-        word(8, false).field(None),
-        word(0, true).field(None),
-        word(16, true).field(None),
-    ];
-    for count in 0..=5 {
+    let words = [(0, false), (16, false), (8, false), (0, true), (16, true)];
+    for count in 0..=words.len() {
+        let fields = words.iter().map(|&(f, wide)| field(f, wide)).collect();
         let row = answer(X | DERR, 0xF1_E2D3).repeat(count);
-        group.add(
-            &format!("both-buffers-replies-{count}"),
-            exact(list(3, fields.clone()), row),
-        );
+        let name = format!("both-buffers-replies-{count}");
+        group.add(&name, exact(list(3, fields), row));
     }
     let block = Word {
         mode: 1,
-        ..word(0, true)
-    }
-    .of_halfwords(8);
+        ..single(0, true)
+    };
+    let fields = vec![block.of_halfwords(8), literal()];
     let row = [Q | X, Q, X, 0]
         .map(|bits| answer(bits, 0x03_0201))
         .concat();
-    group.add(
-        "q-and-x-in-the-longword",
-        exact(list(3, vec![block, literal()]), row),
-    );
+    group.add("q-and-x-in-the-longword", exact(list(3, fields), row));
     group
 }
 
@@ -307,33 +284,16 @@ fn refusals() -> Group {
     let about =
         "a refused run: no reply taken, a record marked ended and all else zero, buffers kept";
     let mut group = Group::new("refused-runs", about);
-    let behind = |text: &str| crate::cases::by_hand::list(text);
-    let bad = hex("04 00 00");
-    let mut of = |name: &str, list: Vec<u8>| {
+    let halt = ("refusal-22", list(3, Vec::new()));
+    for (name, list) in refused_lists().into_iter().chain([halt]) {
         let call = Call::Run {
             list,
             incoming: filled(3, 0x11),
             outgoing: filled(1, 0x81),
-            row: bad.clone(),
+            row: hex("04 00 00"),
         };
         group.add(name, call);
-    };
-    of("refusal-1", behind("2F 00"));
-    of("refusal-2", hex("01 04 00 01 00 00 00"));
-    of("refusal-3", behind("2F 00 00 55 00 00"));
-    of("refusal-4", behind("2F 00 00 2F 01 00 00"));
-    of("refusal-6", behind("10 04 00 06 01 00 02 2F 00 00"));
-    of("refusal-7", behind("10 04 00 02 00 00 02 2F 00 00"));
-    of("refusal-8", behind("10 04 00 22 01 00 02 2F 00 00"));
-    of(
-        "refusal-9",
-        behind("10 08 00 22 01 00 02 00 00 00 00 2F 00 00"),
-    );
-    of("refusal-10", behind("2F 00 00 20 02 00 02 00"));
-    of("refusal-11", behind("20 02 00 00 00"));
-    of("refusal-20", behind("21 04 00 01 02 03 04 2F 00 00"));
-    of("refusal-21", behind("10 04 00 02 01 10 02 2F 00 00"));
-    of("refusal-22", behind("2F 00 00"));
+    }
     group
 }
 

@@ -1,8 +1,7 @@
 //! Start: the first operation of every kind, runs that end at once, and refusals.
 
-use super::instructions::{filled, kinds, list, Word};
+use super::instructions::{filled, kinds, list, refused_lists, Word};
 use super::{Call, Group, Module};
-use crate::cases::by_hand::hex;
 use crate::cases::lists::{Draft, DraftField};
 use crate::walk::admit;
 
@@ -39,36 +38,30 @@ fn ways() -> Group {
     let mut group = Group::new("ways", about);
     let (jump, halt) = (DraftField::jump, DraftField::halt);
     let literal = || DraftField::literal(0xA1B2_C3D4);
-    let of = |fields: Vec<DraftField>| exact(Draft::new(3, fields).bytes());
-    let write = || {
-        Word {
-            f: 16,
-            wide: true,
-            ..Word::K1
-        }
-        .field(None)
-    };
-    group.add("halt-alone", of(vec![halt()]));
-    group.add("jump-to-a-halt", of(vec![jump(2), halt(), halt()]));
-    group.add("one-literal", of(vec![literal(), halt()]));
-    group.add("two-literals", of(vec![literal(), literal(), halt()]));
-    group.add(
-        "jump-over-a-literal",
-        of(vec![jump(2), literal(), literal(), halt()]),
-    );
-    group.add(
-        "literal-before-a-write",
-        of(vec![literal(), write(), halt()]),
-    );
-    group.add(
-        "literal-before-a-read",
-        of(vec![literal(), Word::K1.field(None), halt()]),
-    );
-    group.add("jump-back", of(vec![jump(2), halt(), write(), jump(1)]));
-    group.add(
-        "jump-to-a-write",
-        of(vec![jump(2), halt(), write(), halt()]),
-    );
+    let write = || Word::K1.f(16).wide(true).field(None);
+    let ways = [
+        ("halt-alone", vec![halt()]),
+        ("jump-to-a-halt", vec![jump(2), halt(), halt()]),
+        ("one-literal", vec![literal(), halt()]),
+        ("two-literals", vec![literal(), literal(), halt()]),
+        (
+            "jump-over-a-literal",
+            vec![jump(2), literal(), literal(), halt()],
+        ),
+        ("literal-before-a-write", vec![literal(), write(), halt()]),
+        (
+            "literal-before-a-read",
+            vec![literal(), Word::K1.field(None), halt()],
+        ),
+        ("jump-to-a-write", vec![jump(2), halt(), write(), halt()]),
+        (
+            "jump-to-a-write-and-back",
+            vec![jump(2), halt(), write(), jump(1)],
+        ),
+    ];
+    for (name, fields) in ways {
+        group.add(name, exact(Draft::new(3, fields).bytes()));
+    }
     let longer = Call::Start {
         list: list(3, vec![literal()]),
         incoming: filled(7, 0x11),
@@ -82,30 +75,11 @@ fn refusals() -> Group {
     let about =
         "a refused start: number and place, a record marked ended and all else zero, buffers kept";
     let mut group = Group::new("refused-starts", about);
-    let behind = |text: &str| crate::cases::by_hand::list(text);
-    let lists = [
-        ("refusal-1", behind("2F 00")),
-        ("refusal-2", hex("01 04 00 01 00 00 00")),
-        ("refusal-3", behind("2F 00 00 55 00 00")),
-        ("refusal-4", behind("2F 00 00 2F 01 00 00")),
-        ("refusal-6", behind("10 04 00 06 01 00 02 2F 00 00")),
-        ("refusal-7", behind("10 04 00 02 00 00 02 2F 00 00")),
-        ("refusal-8", behind("10 04 00 22 01 00 02 2F 00 00")),
-        (
-            "refusal-9",
-            behind("10 08 00 22 01 00 02 00 00 00 00 2F 00 00"),
-        ),
-        ("refusal-10", behind("2F 00 00 20 02 00 02 00")),
-        ("refusal-11", behind("20 02 00 00 00")),
-        ("refusal-20", behind("21 04 00 01 02 03 04 2F 00 00")),
-        ("refusal-21", behind("10 04 00 02 01 10 02 2F 00 00")),
-    ];
-    for (name, list) in lists {
-        let outgoing_len = if name == "refusal-21" { 1 } else { 2 };
+    for (name, list) in refused_lists() {
         let call = Call::Start {
             list,
             incoming: filled(3, 0x11),
-            outgoing: filled(outgoing_len, 0x81),
+            outgoing: filled(1, 0x81),
         };
         group.add(name, call);
     }
