@@ -1,6 +1,5 @@
 -- Admission: each refusal at its bound, with its place; which comes first; W, B and O.
 -- Printed with the separate build's answers: cargo run --release --manifest-path rust/Cargo.toml -p reference --example equations write
-use Prim.Native.Nat.{_+_}
 use mathlib.Core.Path.{_≡_}
 use mathlib.Core.List.{[], _∷_, _++_}
 use Rattle.listfile.specs.Fields.{fieldsFrom, fields}

@@ -5,124 +5,71 @@ use mathlib.Core.Path.{_≡_}
 use mathlib.Core.Bool.{false}
 use mathlib.Core.List.{List, [], _++_}
 use Rattle.reply.specs.Effect.{stateOf}
+use Rattle.reply.specs.declared.records.Record.{Record}
 use Rattle.calls.specs.Calls.{Called, stepOf}
 use Rattle.worst_count.specs.Cases.{firstField, jump, literal, halt}
 use Rattle.equations.specs.Forms.{hex, camac-4, camac-8, Q, X, ERR, DERR, TPE, LPE, answer, kind, waiting, ended, operation, wants, wantsNone, refusedWith}
 
 -- a record that fits, and those that one number makes unfit
+abbrev pub block-stop-read-16-first-word-0 : Record → Called
+block-stop-read-16-first-word-0 r =
+    stepOf (firstField 3 ++ literal 0xA1B2C3D4 ++ camac-8 0x0A620922 0xFFFFFFFD ++ jump 4 ++ camac-4 0x02000102 ++ halt)
+    (stateOf r (hex 10 0x1112131415161718191A) [])
+    (answer (Q + X) 0x345678)
+
 pub record BlockStopRead16FirstWord : Type 0 where
-  pub fits :
-      stepOf (firstField 3 ++ literal 0xA1B2C3D4 ++ camac-8 0x0A620922 0xFFFFFFFD ++ jump 4 ++ camac-4 0x02000102 ++ halt)
-      (stateOf (waiting 1 3 0 5 3 4 0 0 0x00000000 0 0 4) (hex 10 0x1112131415161718191A) [])
-      (answer (Q + X) 0x345678)
+  pub fits : block-stop-read-16-first-word-0 (waiting 1 3 0 5 3 4 0 0 0x00000000 0 0 4)
       ≡ wants (operation 9 5 3 2 0x000000 false) (stateOf (waiting 1 2 0 5 3 6 0 1 0x00000000 0 4 2) (hex 10 0x1112131478561718191A) [])
-  pub instruction-less :
-      stepOf (firstField 3 ++ literal 0xA1B2C3D4 ++ camac-8 0x0A620922 0xFFFFFFFD ++ jump 4 ++ camac-4 0x02000102 ++ halt)
-      (stateOf (waiting 0 3 0 5 3 4 0 0 0x00000000 0 0 4) (hex 10 0x1112131415161718191A) [])
-      (answer (Q + X) 0x345678)
+  pub instruction-less : block-stop-read-16-first-word-0 (waiting 0 3 0 5 3 4 0 0 0x00000000 0 0 4)
       ≡ refusedWith 23 0 (stateOf (waiting 0 3 0 5 3 4 0 0 0x00000000 0 0 4) (hex 10 0x1112131415161718191A) [])
-  pub instruction-more :
-      stepOf (firstField 3 ++ literal 0xA1B2C3D4 ++ camac-8 0x0A620922 0xFFFFFFFD ++ jump 4 ++ camac-4 0x02000102 ++ halt)
-      (stateOf (waiting 2 3 0 5 3 4 0 0 0x00000000 0 0 4) (hex 10 0x1112131415161718191A) [])
-      (answer (Q + X) 0x345678)
+  pub instruction-more : block-stop-read-16-first-word-0 (waiting 2 3 0 5 3 4 0 0 0x00000000 0 0 4)
       ≡ refusedWith 23 0 (stateOf (waiting 2 3 0 5 3 4 0 0 0x00000000 0 0 4) (hex 10 0x1112131415161718191A) [])
-  pub words-left-more :
-      stepOf (firstField 3 ++ literal 0xA1B2C3D4 ++ camac-8 0x0A620922 0xFFFFFFFD ++ jump 4 ++ camac-4 0x02000102 ++ halt)
-      (stateOf (waiting 1 4 0 5 3 4 0 0 0x00000000 0 0 4) (hex 10 0x1112131415161718191A) [])
-      (answer (Q + X) 0x345678)
+  pub words-left-more : block-stop-read-16-first-word-0 (waiting 1 4 0 5 3 4 0 0 0x00000000 0 0 4)
       ≡ refusedWith 23 0 (stateOf (waiting 1 4 0 5 3 4 0 0 0x00000000 0 0 4) (hex 10 0x1112131415161718191A) [])
-  pub tries-more :
-      stepOf (firstField 3 ++ literal 0xA1B2C3D4 ++ camac-8 0x0A620922 0xFFFFFFFD ++ jump 4 ++ camac-4 0x02000102 ++ halt)
-      (stateOf (waiting 1 3 1 5 3 4 0 0 0x00000000 0 0 4) (hex 10 0x1112131415161718191A) [])
-      (answer (Q + X) 0x345678)
+  pub tries-more : block-stop-read-16-first-word-0 (waiting 1 3 1 5 3 4 0 0 0x00000000 0 0 4)
       ≡ refusedWith 23 0 (stateOf (waiting 1 3 1 5 3 4 0 0 0x00000000 0 0 4) (hex 10 0x1112131415161718191A) [])
-  pub station-less :
-      stepOf (firstField 3 ++ literal 0xA1B2C3D4 ++ camac-8 0x0A620922 0xFFFFFFFD ++ jump 4 ++ camac-4 0x02000102 ++ halt)
-      (stateOf (waiting 1 3 0 4 3 4 0 0 0x00000000 0 0 4) (hex 10 0x1112131415161718191A) [])
-      (answer (Q + X) 0x345678)
+  pub station-less : block-stop-read-16-first-word-0 (waiting 1 3 0 4 3 4 0 0 0x00000000 0 0 4)
       ≡ refusedWith 23 0 (stateOf (waiting 1 3 0 4 3 4 0 0 0x00000000 0 0 4) (hex 10 0x1112131415161718191A) [])
-  pub station-more :
-      stepOf (firstField 3 ++ literal 0xA1B2C3D4 ++ camac-8 0x0A620922 0xFFFFFFFD ++ jump 4 ++ camac-4 0x02000102 ++ halt)
-      (stateOf (waiting 1 3 0 6 3 4 0 0 0x00000000 0 0 4) (hex 10 0x1112131415161718191A) [])
-      (answer (Q + X) 0x345678)
+  pub station-more : block-stop-read-16-first-word-0 (waiting 1 3 0 6 3 4 0 0 0x00000000 0 0 4)
       ≡ refusedWith 23 0 (stateOf (waiting 1 3 0 6 3 4 0 0 0x00000000 0 0 4) (hex 10 0x1112131415161718191A) [])
-  pub subaddress-less :
-      stepOf (firstField 3 ++ literal 0xA1B2C3D4 ++ camac-8 0x0A620922 0xFFFFFFFD ++ jump 4 ++ camac-4 0x02000102 ++ halt)
-      (stateOf (waiting 1 3 0 5 2 4 0 0 0x00000000 0 0 4) (hex 10 0x1112131415161718191A) [])
-      (answer (Q + X) 0x345678)
+  pub subaddress-less : block-stop-read-16-first-word-0 (waiting 1 3 0 5 2 4 0 0 0x00000000 0 0 4)
       ≡ refusedWith 23 0 (stateOf (waiting 1 3 0 5 2 4 0 0 0x00000000 0 0 4) (hex 10 0x1112131415161718191A) [])
-  pub subaddress-more :
-      stepOf (firstField 3 ++ literal 0xA1B2C3D4 ++ camac-8 0x0A620922 0xFFFFFFFD ++ jump 4 ++ camac-4 0x02000102 ++ halt)
-      (stateOf (waiting 1 3 0 5 4 4 0 0 0x00000000 0 0 4) (hex 10 0x1112131415161718191A) [])
-      (answer (Q + X) 0x345678)
+  pub subaddress-more : block-stop-read-16-first-word-0 (waiting 1 3 0 5 4 4 0 0 0x00000000 0 0 4)
       ≡ refusedWith 23 0 (stateOf (waiting 1 3 0 5 4 4 0 0 0x00000000 0 0 4) (hex 10 0x1112131415161718191A) [])
-  pub incoming-mark-less :
-      stepOf (firstField 3 ++ literal 0xA1B2C3D4 ++ camac-8 0x0A620922 0xFFFFFFFD ++ jump 4 ++ camac-4 0x02000102 ++ halt)
-      (stateOf (waiting 1 3 0 5 3 3 0 0 0x00000000 0 0 4) (hex 10 0x1112131415161718191A) [])
-      (answer (Q + X) 0x345678)
+  pub incoming-mark-less : block-stop-read-16-first-word-0 (waiting 1 3 0 5 3 3 0 0 0x00000000 0 0 4)
       ≡ refusedWith 23 0 (stateOf (waiting 1 3 0 5 3 3 0 0 0x00000000 0 0 4) (hex 10 0x1112131415161718191A) [])
-  pub incoming-mark-more :
-      stepOf (firstField 3 ++ literal 0xA1B2C3D4 ++ camac-8 0x0A620922 0xFFFFFFFD ++ jump 4 ++ camac-4 0x02000102 ++ halt)
-      (stateOf (waiting 1 3 0 5 3 5 0 0 0x00000000 0 0 4) (hex 10 0x1112131415161718191A) [])
-      (answer (Q + X) 0x345678)
+  pub incoming-mark-more : block-stop-read-16-first-word-0 (waiting 1 3 0 5 3 5 0 0 0x00000000 0 0 4)
       ≡ refusedWith 23 0 (stateOf (waiting 1 3 0 5 3 5 0 0 0x00000000 0 0 4) (hex 10 0x1112131415161718191A) [])
-  pub outgoing-mark-more :
-      stepOf (firstField 3 ++ literal 0xA1B2C3D4 ++ camac-8 0x0A620922 0xFFFFFFFD ++ jump 4 ++ camac-4 0x02000102 ++ halt)
-      (stateOf (waiting 1 3 0 5 3 4 1 0 0x00000000 0 0 4) (hex 10 0x1112131415161718191A) [])
-      (answer (Q + X) 0x345678)
+  pub outgoing-mark-more : block-stop-read-16-first-word-0 (waiting 1 3 0 5 3 4 1 0 0x00000000 0 0 4)
       ≡ refusedWith 23 0 (stateOf (waiting 1 3 0 5 3 4 1 0 0x00000000 0 0 4) (hex 10 0x1112131415161718191A) [])
-  pub operations-more :
-      stepOf (firstField 3 ++ literal 0xA1B2C3D4 ++ camac-8 0x0A620922 0xFFFFFFFD ++ jump 4 ++ camac-4 0x02000102 ++ halt)
-      (stateOf (waiting 1 3 0 5 3 4 0 1 0x00000000 0 0 4) (hex 10 0x1112131415161718191A) [])
-      (answer (Q + X) 0x345678)
+  pub operations-more : block-stop-read-16-first-word-0 (waiting 1 3 0 5 3 4 0 1 0x00000000 0 0 4)
       ≡ refusedWith 23 0 (stateOf (waiting 1 3 0 5 3 4 0 1 0x00000000 0 0 4) (hex 10 0x1112131415161718191A) [])
-  pub note-buffer-more :
-      stepOf (firstField 3 ++ literal 0xA1B2C3D4 ++ camac-8 0x0A620922 0xFFFFFFFD ++ jump 4 ++ camac-4 0x02000102 ++ halt)
-      (stateOf (waiting 1 3 0 5 3 4 0 0 0x00000000 1 0 4) (hex 10 0x1112131415161718191A) [])
-      (answer (Q + X) 0x345678)
+  pub note-buffer-more : block-stop-read-16-first-word-0 (waiting 1 3 0 5 3 4 0 0 0x00000000 1 0 4)
       ≡ refusedWith 23 0 (stateOf (waiting 1 3 0 5 3 4 0 0 0x00000000 1 0 4) (hex 10 0x1112131415161718191A) [])
-  pub note-offset-more :
-      stepOf (firstField 3 ++ literal 0xA1B2C3D4 ++ camac-8 0x0A620922 0xFFFFFFFD ++ jump 4 ++ camac-4 0x02000102 ++ halt)
-      (stateOf (waiting 1 3 0 5 3 4 0 0 0x00000000 0 1 4) (hex 10 0x1112131415161718191A) [])
-      (answer (Q + X) 0x345678)
+  pub note-offset-more : block-stop-read-16-first-word-0 (waiting 1 3 0 5 3 4 0 0 0x00000000 0 1 4)
       ≡ refusedWith 23 0 (stateOf (waiting 1 3 0 5 3 4 0 0 0x00000000 0 1 4) (hex 10 0x1112131415161718191A) [])
-  pub note-length-less :
-      stepOf (firstField 3 ++ literal 0xA1B2C3D4 ++ camac-8 0x0A620922 0xFFFFFFFD ++ jump 4 ++ camac-4 0x02000102 ++ halt)
-      (stateOf (waiting 1 3 0 5 3 4 0 0 0x00000000 0 0 3) (hex 10 0x1112131415161718191A) [])
-      (answer (Q + X) 0x345678)
+  pub note-length-less : block-stop-read-16-first-word-0 (waiting 1 3 0 5 3 4 0 0 0x00000000 0 0 3)
       ≡ refusedWith 23 0 (stateOf (waiting 1 3 0 5 3 4 0 0 0x00000000 0 0 3) (hex 10 0x1112131415161718191A) [])
-  pub note-length-more :
-      stepOf (firstField 3 ++ literal 0xA1B2C3D4 ++ camac-8 0x0A620922 0xFFFFFFFD ++ jump 4 ++ camac-4 0x02000102 ++ halt)
-      (stateOf (waiting 1 3 0 5 3 4 0 0 0x00000000 0 0 5) (hex 10 0x1112131415161718191A) [])
-      (answer (Q + X) 0x345678)
+  pub note-length-more : block-stop-read-16-first-word-0 (waiting 1 3 0 5 3 4 0 0 0x00000000 0 0 5)
       ≡ refusedWith 23 0 (stateOf (waiting 1 3 0 5 3 4 0 0 0x00000000 0 0 5) (hex 10 0x1112131415161718191A) [])
-  pub incoming-mark-more-by-2 :
-      stepOf (firstField 3 ++ literal 0xA1B2C3D4 ++ camac-8 0x0A620922 0xFFFFFFFD ++ jump 4 ++ camac-4 0x02000102 ++ halt)
-      (stateOf (waiting 1 3 0 5 3 6 0 0 0x00000000 0 0 4) (hex 10 0x1112131415161718191A) [])
-      (answer (Q + X) 0x345678)
+  pub incoming-mark-more-by-2 : block-stop-read-16-first-word-0 (waiting 1 3 0 5 3 6 0 0 0x00000000 0 0 4)
       ≡ refusedWith 23 0 (stateOf (waiting 1 3 0 5 3 6 0 0 0x00000000 0 0 4) (hex 10 0x1112131415161718191A) [])
-  pub outgoing-mark-more-by-2 :
-      stepOf (firstField 3 ++ literal 0xA1B2C3D4 ++ camac-8 0x0A620922 0xFFFFFFFD ++ jump 4 ++ camac-4 0x02000102 ++ halt)
-      (stateOf (waiting 1 3 0 5 3 4 2 0 0x00000000 0 0 4) (hex 10 0x1112131415161718191A) [])
-      (answer (Q + X) 0x345678)
+  pub outgoing-mark-more-by-2 : block-stop-read-16-first-word-0 (waiting 1 3 0 5 3 4 2 0 0x00000000 0 0 4)
       ≡ refusedWith 23 0 (stateOf (waiting 1 3 0 5 3 4 2 0 0x00000000 0 0 4) (hex 10 0x1112131415161718191A) [])
 
 -- a record that fits, and those that one number makes unfit
+abbrev pub block-stop-read-16-last-word-0 : Record → Called
+block-stop-read-16-last-word-0 r =
+    stepOf (firstField 3 ++ literal 0xA1B2C3D4 ++ camac-8 0x0A620922 0xFFFFFFFD ++ jump 4 ++ camac-4 0x02000102 ++ halt)
+    (stateOf r (hex 10 0x1112131415161718191A) [])
+    (answer (Q + X) 0x345678)
+
 pub record BlockStopRead16LastWord : Type 0 where
-  pub fits :
-      stepOf (firstField 3 ++ literal 0xA1B2C3D4 ++ camac-8 0x0A620922 0xFFFFFFFD ++ jump 4 ++ camac-4 0x02000102 ++ halt)
-      (stateOf (waiting 1 1 0 5 3 8 0 2 0x00000000 0 4 4) (hex 10 0x1112131415161718191A) [])
-      (answer (Q + X) 0x345678)
+  pub fits : block-stop-read-16-last-word-0 (waiting 1 1 0 5 3 8 0 2 0x00000000 0 4 4)
       ≡ wantsNone (stateOf (ended 4 0 0 0 0 10 0 3 0x00000080 0 8 2) (hex 10 0x11121314151617187856) [])
-  pub words-left-less :
-      stepOf (firstField 3 ++ literal 0xA1B2C3D4 ++ camac-8 0x0A620922 0xFFFFFFFD ++ jump 4 ++ camac-4 0x02000102 ++ halt)
-      (stateOf (waiting 1 0 0 5 3 8 0 2 0x00000000 0 4 4) (hex 10 0x1112131415161718191A) [])
-      (answer (Q + X) 0x345678)
+  pub words-left-less : block-stop-read-16-last-word-0 (waiting 1 0 0 5 3 8 0 2 0x00000000 0 4 4)
       ≡ refusedWith 23 0 (stateOf (waiting 1 0 0 5 3 8 0 2 0x00000000 0 4 4) (hex 10 0x1112131415161718191A) [])
-  pub words-left-more :
-      stepOf (firstField 3 ++ literal 0xA1B2C3D4 ++ camac-8 0x0A620922 0xFFFFFFFD ++ jump 4 ++ camac-4 0x02000102 ++ halt)
-      (stateOf (waiting 1 2 0 5 3 8 0 2 0x00000000 0 4 4) (hex 10 0x1112131415161718191A) [])
-      (answer (Q + X) 0x345678)
+  pub words-left-more : block-stop-read-16-last-word-0 (waiting 1 2 0 5 3 8 0 2 0x00000000 0 4 4)
       ≡ refusedWith 23 0 (stateOf (waiting 1 2 0 5 3 8 0 2 0x00000000 0 4 4) (hex 10 0x1112131415161718191A) [])
 
 -- a record that fits, and those that one number makes unfit
@@ -134,59 +81,41 @@ pub record BlockStopWrite24FirstWord : Type 0 where
       ≡ wants (operation 9 5 3 17 0x878685 false) (stateOf (waiting 1 2 0 5 3 4 4 1 0x00000000 1 0 4) (hex 4 0x11121314) (hex 12 0x8182838485868788898A8B8C))
 
 -- a record that fits, and those that one number makes unfit
+abbrev pub block-stop-write-24-last-word-0 : Record → Called
+block-stop-write-24-last-word-0 r =
+    stepOf (firstField 3 ++ literal 0xA1B2C3D4 ++ camac-8 0x0A710920 0xFFFFFFFA ++ jump 4 ++ camac-4 0x02000102 ++ halt)
+    (stateOf r (hex 4 0x11121314) (hex 12 0x8182838485868788898A8B8C))
+    (answer (Q + X) 0x345678)
+
 pub record BlockStopWrite24LastWord : Type 0 where
-  pub fits :
-      stepOf (firstField 3 ++ literal 0xA1B2C3D4 ++ camac-8 0x0A710920 0xFFFFFFFA ++ jump 4 ++ camac-4 0x02000102 ++ halt)
-      (stateOf (waiting 1 1 0 5 3 4 8 2 0x00000000 1 4 4) (hex 4 0x11121314) (hex 12 0x8182838485868788898A8B8C))
-      (answer (Q + X) 0x345678)
+  pub fits : block-stop-write-24-last-word-0 (waiting 1 1 0 5 3 4 8 2 0x00000000 1 4 4)
       ≡ wantsNone (stateOf (ended 4 0 0 0 0 4 12 3 0x00000080 1 8 4) (hex 4 0x11121314) (hex 12 0x8182838485868788898A8B8C))
-  pub outgoing-mark-less :
-      stepOf (firstField 3 ++ literal 0xA1B2C3D4 ++ camac-8 0x0A710920 0xFFFFFFFA ++ jump 4 ++ camac-4 0x02000102 ++ halt)
-      (stateOf (waiting 1 1 0 5 3 4 7 2 0x00000000 1 4 4) (hex 4 0x11121314) (hex 12 0x8182838485868788898A8B8C))
-      (answer (Q + X) 0x345678)
+  pub outgoing-mark-less : block-stop-write-24-last-word-0 (waiting 1 1 0 5 3 4 7 2 0x00000000 1 4 4)
       ≡ refusedWith 23 0 (stateOf (waiting 1 1 0 5 3 4 7 2 0x00000000 1 4 4) (hex 4 0x11121314) (hex 12 0x8182838485868788898A8B8C))
-  pub note-buffer-less :
-      stepOf (firstField 3 ++ literal 0xA1B2C3D4 ++ camac-8 0x0A710920 0xFFFFFFFA ++ jump 4 ++ camac-4 0x02000102 ++ halt)
-      (stateOf (waiting 1 1 0 5 3 4 8 2 0x00000000 0 4 4) (hex 4 0x11121314) (hex 12 0x8182838485868788898A8B8C))
-      (answer (Q + X) 0x345678)
+  pub note-buffer-less : block-stop-write-24-last-word-0 (waiting 1 1 0 5 3 4 8 2 0x00000000 0 4 4)
       ≡ refusedWith 23 0 (stateOf (waiting 1 1 0 5 3 4 8 2 0x00000000 0 4 4) (hex 4 0x11121314) (hex 12 0x8182838485868788898A8B8C))
 
 -- a record that fits, and those that one number makes unfit
+abbrev pub block-ignore-read-16-first-word-0 : Record → Called
+block-ignore-read-16-first-word-0 r =
+    stepOf (firstField 3 ++ literal 0xA1B2C3D4 ++ camac-8 0x0A62092A 0xFFFFFFFD ++ jump 4 ++ camac-4 0x02000102 ++ halt)
+    (stateOf r (hex 10 0x1112131415161718191A) [])
+    (answer (Q + X) 0x345678)
+
 pub record BlockIgnoreRead16FirstWord : Type 0 where
-  pub fits :
-      stepOf (firstField 3 ++ literal 0xA1B2C3D4 ++ camac-8 0x0A62092A 0xFFFFFFFD ++ jump 4 ++ camac-4 0x02000102 ++ halt)
-      (stateOf (waiting 1 3 0 5 3 4 0 0 0x00000000 0 0 4) (hex 10 0x1112131415161718191A) [])
-      (answer (Q + X) 0x345678)
+  pub fits : block-ignore-read-16-first-word-0 (waiting 1 3 0 5 3 4 0 0 0x00000000 0 0 4)
       ≡ wants (operation 9 5 3 2 0x000000 false) (stateOf (waiting 1 2 0 5 3 6 0 1 0x00000000 0 4 2) (hex 10 0x1112131478561718191A) [])
-  pub tries-more :
-      stepOf (firstField 3 ++ literal 0xA1B2C3D4 ++ camac-8 0x0A62092A 0xFFFFFFFD ++ jump 4 ++ camac-4 0x02000102 ++ halt)
-      (stateOf (waiting 1 3 1 5 3 4 0 0 0x00000000 0 0 4) (hex 10 0x1112131415161718191A) [])
-      (answer (Q + X) 0x345678)
+  pub tries-more : block-ignore-read-16-first-word-0 (waiting 1 3 1 5 3 4 0 0 0x00000000 0 0 4)
       ≡ refusedWith 23 0 (stateOf (waiting 1 3 1 5 3 4 0 0 0x00000000 0 0 4) (hex 10 0x1112131415161718191A) [])
-  pub station-less :
-      stepOf (firstField 3 ++ literal 0xA1B2C3D4 ++ camac-8 0x0A62092A 0xFFFFFFFD ++ jump 4 ++ camac-4 0x02000102 ++ halt)
-      (stateOf (waiting 1 3 0 4 3 4 0 0 0x00000000 0 0 4) (hex 10 0x1112131415161718191A) [])
-      (answer (Q + X) 0x345678)
+  pub station-less : block-ignore-read-16-first-word-0 (waiting 1 3 0 4 3 4 0 0 0x00000000 0 0 4)
       ≡ refusedWith 23 0 (stateOf (waiting 1 3 0 4 3 4 0 0 0x00000000 0 0 4) (hex 10 0x1112131415161718191A) [])
-  pub station-more :
-      stepOf (firstField 3 ++ literal 0xA1B2C3D4 ++ camac-8 0x0A62092A 0xFFFFFFFD ++ jump 4 ++ camac-4 0x02000102 ++ halt)
-      (stateOf (waiting 1 3 0 6 3 4 0 0 0x00000000 0 0 4) (hex 10 0x1112131415161718191A) [])
-      (answer (Q + X) 0x345678)
+  pub station-more : block-ignore-read-16-first-word-0 (waiting 1 3 0 6 3 4 0 0 0x00000000 0 0 4)
       ≡ refusedWith 23 0 (stateOf (waiting 1 3 0 6 3 4 0 0 0x00000000 0 0 4) (hex 10 0x1112131415161718191A) [])
-  pub subaddress-less :
-      stepOf (firstField 3 ++ literal 0xA1B2C3D4 ++ camac-8 0x0A62092A 0xFFFFFFFD ++ jump 4 ++ camac-4 0x02000102 ++ halt)
-      (stateOf (waiting 1 3 0 5 2 4 0 0 0x00000000 0 0 4) (hex 10 0x1112131415161718191A) [])
-      (answer (Q + X) 0x345678)
+  pub subaddress-less : block-ignore-read-16-first-word-0 (waiting 1 3 0 5 2 4 0 0 0x00000000 0 0 4)
       ≡ refusedWith 23 0 (stateOf (waiting 1 3 0 5 2 4 0 0 0x00000000 0 0 4) (hex 10 0x1112131415161718191A) [])
-  pub subaddress-more :
-      stepOf (firstField 3 ++ literal 0xA1B2C3D4 ++ camac-8 0x0A62092A 0xFFFFFFFD ++ jump 4 ++ camac-4 0x02000102 ++ halt)
-      (stateOf (waiting 1 3 0 5 4 4 0 0 0x00000000 0 0 4) (hex 10 0x1112131415161718191A) [])
-      (answer (Q + X) 0x345678)
+  pub subaddress-more : block-ignore-read-16-first-word-0 (waiting 1 3 0 5 4 4 0 0 0x00000000 0 0 4)
       ≡ refusedWith 23 0 (stateOf (waiting 1 3 0 5 4 4 0 0 0x00000000 0 0 4) (hex 10 0x1112131415161718191A) [])
-  pub operations-more :
-      stepOf (firstField 3 ++ literal 0xA1B2C3D4 ++ camac-8 0x0A62092A 0xFFFFFFFD ++ jump 4 ++ camac-4 0x02000102 ++ halt)
-      (stateOf (waiting 1 3 0 5 3 4 0 1 0x00000000 0 0 4) (hex 10 0x1112131415161718191A) [])
-      (answer (Q + X) 0x345678)
+  pub operations-more : block-ignore-read-16-first-word-0 (waiting 1 3 0 5 3 4 0 1 0x00000000 0 0 4)
       ≡ refusedWith 23 0 (stateOf (waiting 1 3 0 5 3 4 0 1 0x00000000 0 0 4) (hex 10 0x1112131415161718191A) [])
 
 -- a record that fits, and those that one number makes unfit
@@ -214,46 +143,28 @@ pub record BlockIgnoreWrite24LastWord : Type 0 where
       ≡ wantsNone (stateOf (ended 4 0 0 0 0 4 12 3 0x00000080 1 8 4) (hex 4 0x11121314) (hex 12 0x8182838485868788898A8B8C))
 
 -- a record that fits, and those that one number makes unfit
+abbrev pub block-repeat-read-16-first-word-0 : Record → Called
+block-repeat-read-16-first-word-0 r =
+    stepOf (firstField 3 ++ literal 0xA1B2C3D4 ++ camac-8 0x0A620932 0xFFFFFFFD ++ jump 4 ++ camac-4 0x02000102 ++ halt)
+    (stateOf r (hex 10 0x1112131415161718191A) [])
+    (answer (Q + X) 0x345678)
+
 pub record BlockRepeatRead16FirstWord : Type 0 where
-  pub fits :
-      stepOf (firstField 3 ++ literal 0xA1B2C3D4 ++ camac-8 0x0A620932 0xFFFFFFFD ++ jump 4 ++ camac-4 0x02000102 ++ halt)
-      (stateOf (waiting 1 3 2 5 3 4 0 2 0x00000000 0 0 4) (hex 10 0x1112131415161718191A) [])
-      (answer (Q + X) 0x345678)
+  pub fits : block-repeat-read-16-first-word-0 (waiting 1 3 2 5 3 4 0 2 0x00000000 0 0 4)
       ≡ wants (operation 9 5 3 2 0x000000 false) (stateOf (waiting 1 2 0 5 3 6 0 3 0x00000000 0 4 2) (hex 10 0x1112131478561718191A) [])
-  pub tries-less :
-      stepOf (firstField 3 ++ literal 0xA1B2C3D4 ++ camac-8 0x0A620932 0xFFFFFFFD ++ jump 4 ++ camac-4 0x02000102 ++ halt)
-      (stateOf (waiting 1 3 1 5 3 4 0 2 0x00000000 0 0 4) (hex 10 0x1112131415161718191A) [])
-      (answer (Q + X) 0x345678)
+  pub tries-less : block-repeat-read-16-first-word-0 (waiting 1 3 1 5 3 4 0 2 0x00000000 0 0 4)
       ≡ refusedWith 23 0 (stateOf (waiting 1 3 1 5 3 4 0 2 0x00000000 0 0 4) (hex 10 0x1112131415161718191A) [])
-  pub tries-more :
-      stepOf (firstField 3 ++ literal 0xA1B2C3D4 ++ camac-8 0x0A620932 0xFFFFFFFD ++ jump 4 ++ camac-4 0x02000102 ++ halt)
-      (stateOf (waiting 1 3 3 5 3 4 0 2 0x00000000 0 0 4) (hex 10 0x1112131415161718191A) [])
-      (answer (Q + X) 0x345678)
+  pub tries-more : block-repeat-read-16-first-word-0 (waiting 1 3 3 5 3 4 0 2 0x00000000 0 0 4)
       ≡ refusedWith 23 0 (stateOf (waiting 1 3 3 5 3 4 0 2 0x00000000 0 0 4) (hex 10 0x1112131415161718191A) [])
-  pub station-less :
-      stepOf (firstField 3 ++ literal 0xA1B2C3D4 ++ camac-8 0x0A620932 0xFFFFFFFD ++ jump 4 ++ camac-4 0x02000102 ++ halt)
-      (stateOf (waiting 1 3 2 4 3 4 0 2 0x00000000 0 0 4) (hex 10 0x1112131415161718191A) [])
-      (answer (Q + X) 0x345678)
+  pub station-less : block-repeat-read-16-first-word-0 (waiting 1 3 2 4 3 4 0 2 0x00000000 0 0 4)
       ≡ refusedWith 23 0 (stateOf (waiting 1 3 2 4 3 4 0 2 0x00000000 0 0 4) (hex 10 0x1112131415161718191A) [])
-  pub station-more :
-      stepOf (firstField 3 ++ literal 0xA1B2C3D4 ++ camac-8 0x0A620932 0xFFFFFFFD ++ jump 4 ++ camac-4 0x02000102 ++ halt)
-      (stateOf (waiting 1 3 2 6 3 4 0 2 0x00000000 0 0 4) (hex 10 0x1112131415161718191A) [])
-      (answer (Q + X) 0x345678)
+  pub station-more : block-repeat-read-16-first-word-0 (waiting 1 3 2 6 3 4 0 2 0x00000000 0 0 4)
       ≡ refusedWith 23 0 (stateOf (waiting 1 3 2 6 3 4 0 2 0x00000000 0 0 4) (hex 10 0x1112131415161718191A) [])
-  pub subaddress-less :
-      stepOf (firstField 3 ++ literal 0xA1B2C3D4 ++ camac-8 0x0A620932 0xFFFFFFFD ++ jump 4 ++ camac-4 0x02000102 ++ halt)
-      (stateOf (waiting 1 3 2 5 2 4 0 2 0x00000000 0 0 4) (hex 10 0x1112131415161718191A) [])
-      (answer (Q + X) 0x345678)
+  pub subaddress-less : block-repeat-read-16-first-word-0 (waiting 1 3 2 5 2 4 0 2 0x00000000 0 0 4)
       ≡ refusedWith 23 0 (stateOf (waiting 1 3 2 5 2 4 0 2 0x00000000 0 0 4) (hex 10 0x1112131415161718191A) [])
-  pub subaddress-more :
-      stepOf (firstField 3 ++ literal 0xA1B2C3D4 ++ camac-8 0x0A620932 0xFFFFFFFD ++ jump 4 ++ camac-4 0x02000102 ++ halt)
-      (stateOf (waiting 1 3 2 5 4 4 0 2 0x00000000 0 0 4) (hex 10 0x1112131415161718191A) [])
-      (answer (Q + X) 0x345678)
+  pub subaddress-more : block-repeat-read-16-first-word-0 (waiting 1 3 2 5 4 4 0 2 0x00000000 0 0 4)
       ≡ refusedWith 23 0 (stateOf (waiting 1 3 2 5 4 4 0 2 0x00000000 0 0 4) (hex 10 0x1112131415161718191A) [])
-  pub operations-more :
-      stepOf (firstField 3 ++ literal 0xA1B2C3D4 ++ camac-8 0x0A620932 0xFFFFFFFD ++ jump 4 ++ camac-4 0x02000102 ++ halt)
-      (stateOf (waiting 1 3 2 5 3 4 0 3 0x00000000 0 0 4) (hex 10 0x1112131415161718191A) [])
-      (answer (Q + X) 0x345678)
+  pub operations-more : block-repeat-read-16-first-word-0 (waiting 1 3 2 5 3 4 0 3 0x00000000 0 0 4)
       ≡ refusedWith 23 0 (stateOf (waiting 1 3 2 5 3 4 0 3 0x00000000 0 0 4) (hex 10 0x1112131415161718191A) [])
 
 -- a record that fits, and those that one number makes unfit
@@ -281,54 +192,39 @@ pub record BlockRepeatWrite24LastWord : Type 0 where
       ≡ wantsNone (stateOf (ended 4 0 0 0 0 4 12 9 0x00000080 1 8 4) (hex 4 0x11121314) (hex 12 0x8182838485868788898A8B8C))
 
 -- a record that fits, and those that one number makes unfit
+abbrev pub block-scan-read-16-first-word-0 : Record → Called
+block-scan-read-16-first-word-0 r =
+    stepOf (firstField 3 ++ literal 0xA1B2C3D4 ++ camac-8 0x2DC2093A 0xFFFFFFFD ++ jump 4 ++ camac-4 0x02000102 ++ halt)
+    (stateOf r (hex 10 0x1112131415161718191A) [])
+    (answer (Q + X) 0x345678)
+
 pub record BlockScanRead16FirstWord : Type 0 where
-  pub fits :
-      stepOf (firstField 3 ++ literal 0xA1B2C3D4 ++ camac-8 0x2DC2093A 0xFFFFFFFD ++ jump 4 ++ camac-4 0x02000102 ++ halt)
-      (stateOf (waiting 1 3 0 22 14 4 0 0 0x00000000 0 0 4) (hex 10 0x1112131415161718191A) [])
-      (answer (Q + X) 0x345678)
+  pub fits : block-scan-read-16-first-word-0 (waiting 1 3 0 22 14 4 0 0 0x00000000 0 0 4)
       ≡ wants (operation 9 22 15 2 0x000000 false) (stateOf (waiting 1 2 0 22 15 6 0 1 0x00000000 0 4 2) (hex 10 0x1112131478561718191A) [])
-  pub tries-more :
-      stepOf (firstField 3 ++ literal 0xA1B2C3D4 ++ camac-8 0x2DC2093A 0xFFFFFFFD ++ jump 4 ++ camac-4 0x02000102 ++ halt)
-      (stateOf (waiting 1 3 1 22 14 4 0 0 0x00000000 0 0 4) (hex 10 0x1112131415161718191A) [])
-      (answer (Q + X) 0x345678)
+  pub tries-more : block-scan-read-16-first-word-0 (waiting 1 3 1 22 14 4 0 0 0x00000000 0 0 4)
       ≡ refusedWith 23 0 (stateOf (waiting 1 3 1 22 14 4 0 0 0x00000000 0 0 4) (hex 10 0x1112131415161718191A) [])
-  pub station-less :
-      stepOf (firstField 3 ++ literal 0xA1B2C3D4 ++ camac-8 0x2DC2093A 0xFFFFFFFD ++ jump 4 ++ camac-4 0x02000102 ++ halt)
-      (stateOf (waiting 1 3 0 21 14 4 0 0 0x00000000 0 0 4) (hex 10 0x1112131415161718191A) [])
-      (answer (Q + X) 0x345678)
+  pub station-less : block-scan-read-16-first-word-0 (waiting 1 3 0 21 14 4 0 0 0x00000000 0 0 4)
       ≡ refusedWith 23 0 (stateOf (waiting 1 3 0 21 14 4 0 0 0x00000000 0 0 4) (hex 10 0x1112131415161718191A) [])
-  pub subaddress-less :
-      stepOf (firstField 3 ++ literal 0xA1B2C3D4 ++ camac-8 0x2DC2093A 0xFFFFFFFD ++ jump 4 ++ camac-4 0x02000102 ++ halt)
-      (stateOf (waiting 1 3 0 22 13 4 0 0 0x00000000 0 0 4) (hex 10 0x1112131415161718191A) [])
-      (answer (Q + X) 0x345678)
+  pub subaddress-less : block-scan-read-16-first-word-0 (waiting 1 3 0 22 13 4 0 0 0x00000000 0 0 4)
       ≡ refusedWith 23 0 (stateOf (waiting 1 3 0 22 13 4 0 0 0x00000000 0 0 4) (hex 10 0x1112131415161718191A) [])
-  pub operations-more :
-      stepOf (firstField 3 ++ literal 0xA1B2C3D4 ++ camac-8 0x2DC2093A 0xFFFFFFFD ++ jump 4 ++ camac-4 0x02000102 ++ halt)
-      (stateOf (waiting 1 3 0 22 14 4 0 1 0x00000000 0 0 4) (hex 10 0x1112131415161718191A) [])
-      (answer (Q + X) 0x345678)
+  pub operations-more : block-scan-read-16-first-word-0 (waiting 1 3 0 22 14 4 0 1 0x00000000 0 0 4)
       ≡ refusedWith 23 0 (stateOf (waiting 1 3 0 22 14 4 0 1 0x00000000 0 0 4) (hex 10 0x1112131415161718191A) [])
 
 -- a record that fits, and those that one number makes unfit
+abbrev pub block-scan-read-16-last-word-0 : Record → Called
+block-scan-read-16-last-word-0 r =
+    stepOf (firstField 3 ++ literal 0xA1B2C3D4 ++ camac-8 0x2DC2093A 0xFFFFFFFD ++ jump 4 ++ camac-4 0x02000102 ++ halt)
+    (stateOf r (hex 10 0x1112131415161718191A) [])
+    (answer (Q + X) 0x345678)
+
 pub record BlockScanRead16LastWord : Type 0 where
-  pub fits :
-      stepOf (firstField 3 ++ literal 0xA1B2C3D4 ++ camac-8 0x2DC2093A 0xFFFFFFFD ++ jump 4 ++ camac-4 0x02000102 ++ halt)
-      (stateOf (waiting 1 1 0 23 15 8 0 3 0x00000000 0 4 4) (hex 10 0x1112131415161718191A) [])
-      (answer (Q + X) 0x345678)
+  pub fits : block-scan-read-16-last-word-0 (waiting 1 1 0 23 15 8 0 3 0x00000000 0 4 4)
       ≡ wantsNone (stateOf (ended 4 0 0 0 0 10 0 4 0x00000080 0 8 2) (hex 10 0x11121314151617187856) [])
-  pub station-less :
-      stepOf (firstField 3 ++ literal 0xA1B2C3D4 ++ camac-8 0x2DC2093A 0xFFFFFFFD ++ jump 4 ++ camac-4 0x02000102 ++ halt)
-      (stateOf (waiting 1 1 0 22 15 8 0 3 0x00000000 0 4 4) (hex 10 0x1112131415161718191A) [])
-      (answer (Q + X) 0x345678)
+  pub station-less : block-scan-read-16-last-word-0 (waiting 1 1 0 22 15 8 0 3 0x00000000 0 4 4)
       ≡ refusedWith 23 0 (stateOf (waiting 1 1 0 22 15 8 0 3 0x00000000 0 4 4) (hex 10 0x1112131415161718191A) [])
-  pub station-more :
-      stepOf (firstField 3 ++ literal 0xA1B2C3D4 ++ camac-8 0x2DC2093A 0xFFFFFFFD ++ jump 4 ++ camac-4 0x02000102 ++ halt)
-      (stateOf (waiting 1 1 0 24 15 8 0 3 0x00000000 0 4 4) (hex 10 0x1112131415161718191A) [])
-      (answer (Q + X) 0x345678)
+  pub station-more : block-scan-read-16-last-word-0 (waiting 1 1 0 24 15 8 0 3 0x00000000 0 4 4)
       ≡ refusedWith 23 0 (stateOf (waiting 1 1 0 24 15 8 0 3 0x00000000 0 4 4) (hex 10 0x1112131415161718191A) [])
-  pub subaddress-more :
-      stepOf (firstField 3 ++ literal 0xA1B2C3D4 ++ camac-8 0x2DC2093A 0xFFFFFFFD ++ jump 4 ++ camac-4 0x02000102 ++ halt)
-      (stateOf (waiting 1 1 0 23 16 8 0 3 0x00000000 0 4 4) (hex 10 0x1112131415161718191A) [])
-      (answer (Q + X) 0x345678)
+  pub subaddress-more : block-scan-read-16-last-word-0 (waiting 1 1 0 23 16 8 0 3 0x00000000 0 4 4)
       ≡ refusedWith 23 0 (stateOf (waiting 1 1 0 23 16 8 0 3 0x00000000 0 4 4) (hex 10 0x1112131415161718191A) [])
 
 -- a record that fits, and those that one number makes unfit
@@ -348,171 +244,78 @@ pub record BlockScanWrite24LastWord : Type 0 where
       ≡ wantsNone (stateOf (ended 4 0 0 0 0 4 12 4 0x00000080 1 8 4) (hex 4 0x11121314) (hex 12 0x8182838485868788898A8B8C))
 
 -- status: bits 16–18, 20, 21, 23 and 26 fit, alone and together, and are kept; no other does
+abbrev pub statuses-0 : Record → Called
+statuses-0 r =
+    stepOf (firstField 3 ++ literal 0xA1B2C3D4 ++ camac-8 0x0A620922 0xFFFFFFFD ++ jump 4 ++ camac-4 0x02000102 ++ halt)
+    (stateOf r (hex 10 0x1112131415161718191A) [])
+    (answer (Q + X) 0x345678)
+
 pub record Statuses : Type 0 where
-  pub bit-0 :
-      stepOf (firstField 3 ++ literal 0xA1B2C3D4 ++ camac-8 0x0A620922 0xFFFFFFFD ++ jump 4 ++ camac-4 0x02000102 ++ halt)
-      (stateOf (waiting 1 3 0 5 3 4 0 0 0x00000001 0 0 4) (hex 10 0x1112131415161718191A) [])
-      (answer (Q + X) 0x345678)
+  pub bit-0 : statuses-0 (waiting 1 3 0 5 3 4 0 0 0x00000001 0 0 4)
       ≡ refusedWith 23 0 (stateOf (waiting 1 3 0 5 3 4 0 0 0x00000001 0 0 4) (hex 10 0x1112131415161718191A) [])
-  pub bit-1 :
-      stepOf (firstField 3 ++ literal 0xA1B2C3D4 ++ camac-8 0x0A620922 0xFFFFFFFD ++ jump 4 ++ camac-4 0x02000102 ++ halt)
-      (stateOf (waiting 1 3 0 5 3 4 0 0 0x00000002 0 0 4) (hex 10 0x1112131415161718191A) [])
-      (answer (Q + X) 0x345678)
+  pub bit-1 : statuses-0 (waiting 1 3 0 5 3 4 0 0 0x00000002 0 0 4)
       ≡ refusedWith 23 0 (stateOf (waiting 1 3 0 5 3 4 0 0 0x00000002 0 0 4) (hex 10 0x1112131415161718191A) [])
-  pub bit-2 :
-      stepOf (firstField 3 ++ literal 0xA1B2C3D4 ++ camac-8 0x0A620922 0xFFFFFFFD ++ jump 4 ++ camac-4 0x02000102 ++ halt)
-      (stateOf (waiting 1 3 0 5 3 4 0 0 0x00000004 0 0 4) (hex 10 0x1112131415161718191A) [])
-      (answer (Q + X) 0x345678)
+  pub bit-2 : statuses-0 (waiting 1 3 0 5 3 4 0 0 0x00000004 0 0 4)
       ≡ refusedWith 23 0 (stateOf (waiting 1 3 0 5 3 4 0 0 0x00000004 0 0 4) (hex 10 0x1112131415161718191A) [])
-  pub bit-3 :
-      stepOf (firstField 3 ++ literal 0xA1B2C3D4 ++ camac-8 0x0A620922 0xFFFFFFFD ++ jump 4 ++ camac-4 0x02000102 ++ halt)
-      (stateOf (waiting 1 3 0 5 3 4 0 0 0x00000008 0 0 4) (hex 10 0x1112131415161718191A) [])
-      (answer (Q + X) 0x345678)
+  pub bit-3 : statuses-0 (waiting 1 3 0 5 3 4 0 0 0x00000008 0 0 4)
       ≡ refusedWith 23 0 (stateOf (waiting 1 3 0 5 3 4 0 0 0x00000008 0 0 4) (hex 10 0x1112131415161718191A) [])
-  pub bit-4 :
-      stepOf (firstField 3 ++ literal 0xA1B2C3D4 ++ camac-8 0x0A620922 0xFFFFFFFD ++ jump 4 ++ camac-4 0x02000102 ++ halt)
-      (stateOf (waiting 1 3 0 5 3 4 0 0 0x00000010 0 0 4) (hex 10 0x1112131415161718191A) [])
-      (answer (Q + X) 0x345678)
+  pub bit-4 : statuses-0 (waiting 1 3 0 5 3 4 0 0 0x00000010 0 0 4)
       ≡ refusedWith 23 0 (stateOf (waiting 1 3 0 5 3 4 0 0 0x00000010 0 0 4) (hex 10 0x1112131415161718191A) [])
-  pub bit-5 :
-      stepOf (firstField 3 ++ literal 0xA1B2C3D4 ++ camac-8 0x0A620922 0xFFFFFFFD ++ jump 4 ++ camac-4 0x02000102 ++ halt)
-      (stateOf (waiting 1 3 0 5 3 4 0 0 0x00000020 0 0 4) (hex 10 0x1112131415161718191A) [])
-      (answer (Q + X) 0x345678)
+  pub bit-5 : statuses-0 (waiting 1 3 0 5 3 4 0 0 0x00000020 0 0 4)
       ≡ refusedWith 23 0 (stateOf (waiting 1 3 0 5 3 4 0 0 0x00000020 0 0 4) (hex 10 0x1112131415161718191A) [])
-  pub bit-6 :
-      stepOf (firstField 3 ++ literal 0xA1B2C3D4 ++ camac-8 0x0A620922 0xFFFFFFFD ++ jump 4 ++ camac-4 0x02000102 ++ halt)
-      (stateOf (waiting 1 3 0 5 3 4 0 0 0x00000040 0 0 4) (hex 10 0x1112131415161718191A) [])
-      (answer (Q + X) 0x345678)
+  pub bit-6 : statuses-0 (waiting 1 3 0 5 3 4 0 0 0x00000040 0 0 4)
       ≡ refusedWith 23 0 (stateOf (waiting 1 3 0 5 3 4 0 0 0x00000040 0 0 4) (hex 10 0x1112131415161718191A) [])
-  pub bit-7 :
-      stepOf (firstField 3 ++ literal 0xA1B2C3D4 ++ camac-8 0x0A620922 0xFFFFFFFD ++ jump 4 ++ camac-4 0x02000102 ++ halt)
-      (stateOf (waiting 1 3 0 5 3 4 0 0 0x00000080 0 0 4) (hex 10 0x1112131415161718191A) [])
-      (answer (Q + X) 0x345678)
+  pub bit-7 : statuses-0 (waiting 1 3 0 5 3 4 0 0 0x00000080 0 0 4)
       ≡ refusedWith 23 0 (stateOf (waiting 1 3 0 5 3 4 0 0 0x00000080 0 0 4) (hex 10 0x1112131415161718191A) [])
-  pub bit-8 :
-      stepOf (firstField 3 ++ literal 0xA1B2C3D4 ++ camac-8 0x0A620922 0xFFFFFFFD ++ jump 4 ++ camac-4 0x02000102 ++ halt)
-      (stateOf (waiting 1 3 0 5 3 4 0 0 0x00000100 0 0 4) (hex 10 0x1112131415161718191A) [])
-      (answer (Q + X) 0x345678)
+  pub bit-8 : statuses-0 (waiting 1 3 0 5 3 4 0 0 0x00000100 0 0 4)
       ≡ refusedWith 23 0 (stateOf (waiting 1 3 0 5 3 4 0 0 0x00000100 0 0 4) (hex 10 0x1112131415161718191A) [])
-  pub bit-9 :
-      stepOf (firstField 3 ++ literal 0xA1B2C3D4 ++ camac-8 0x0A620922 0xFFFFFFFD ++ jump 4 ++ camac-4 0x02000102 ++ halt)
-      (stateOf (waiting 1 3 0 5 3 4 0 0 0x00000200 0 0 4) (hex 10 0x1112131415161718191A) [])
-      (answer (Q + X) 0x345678)
+  pub bit-9 : statuses-0 (waiting 1 3 0 5 3 4 0 0 0x00000200 0 0 4)
       ≡ refusedWith 23 0 (stateOf (waiting 1 3 0 5 3 4 0 0 0x00000200 0 0 4) (hex 10 0x1112131415161718191A) [])
-  pub bit-10 :
-      stepOf (firstField 3 ++ literal 0xA1B2C3D4 ++ camac-8 0x0A620922 0xFFFFFFFD ++ jump 4 ++ camac-4 0x02000102 ++ halt)
-      (stateOf (waiting 1 3 0 5 3 4 0 0 0x00000400 0 0 4) (hex 10 0x1112131415161718191A) [])
-      (answer (Q + X) 0x345678)
+  pub bit-10 : statuses-0 (waiting 1 3 0 5 3 4 0 0 0x00000400 0 0 4)
       ≡ refusedWith 23 0 (stateOf (waiting 1 3 0 5 3 4 0 0 0x00000400 0 0 4) (hex 10 0x1112131415161718191A) [])
-  pub bit-11 :
-      stepOf (firstField 3 ++ literal 0xA1B2C3D4 ++ camac-8 0x0A620922 0xFFFFFFFD ++ jump 4 ++ camac-4 0x02000102 ++ halt)
-      (stateOf (waiting 1 3 0 5 3 4 0 0 0x00000800 0 0 4) (hex 10 0x1112131415161718191A) [])
-      (answer (Q + X) 0x345678)
+  pub bit-11 : statuses-0 (waiting 1 3 0 5 3 4 0 0 0x00000800 0 0 4)
       ≡ refusedWith 23 0 (stateOf (waiting 1 3 0 5 3 4 0 0 0x00000800 0 0 4) (hex 10 0x1112131415161718191A) [])
-  pub bit-12 :
-      stepOf (firstField 3 ++ literal 0xA1B2C3D4 ++ camac-8 0x0A620922 0xFFFFFFFD ++ jump 4 ++ camac-4 0x02000102 ++ halt)
-      (stateOf (waiting 1 3 0 5 3 4 0 0 0x00001000 0 0 4) (hex 10 0x1112131415161718191A) [])
-      (answer (Q + X) 0x345678)
+  pub bit-12 : statuses-0 (waiting 1 3 0 5 3 4 0 0 0x00001000 0 0 4)
       ≡ refusedWith 23 0 (stateOf (waiting 1 3 0 5 3 4 0 0 0x00001000 0 0 4) (hex 10 0x1112131415161718191A) [])
-  pub bit-13 :
-      stepOf (firstField 3 ++ literal 0xA1B2C3D4 ++ camac-8 0x0A620922 0xFFFFFFFD ++ jump 4 ++ camac-4 0x02000102 ++ halt)
-      (stateOf (waiting 1 3 0 5 3 4 0 0 0x00002000 0 0 4) (hex 10 0x1112131415161718191A) [])
-      (answer (Q + X) 0x345678)
+  pub bit-13 : statuses-0 (waiting 1 3 0 5 3 4 0 0 0x00002000 0 0 4)
       ≡ refusedWith 23 0 (stateOf (waiting 1 3 0 5 3 4 0 0 0x00002000 0 0 4) (hex 10 0x1112131415161718191A) [])
-  pub bit-14 :
-      stepOf (firstField 3 ++ literal 0xA1B2C3D4 ++ camac-8 0x0A620922 0xFFFFFFFD ++ jump 4 ++ camac-4 0x02000102 ++ halt)
-      (stateOf (waiting 1 3 0 5 3 4 0 0 0x00004000 0 0 4) (hex 10 0x1112131415161718191A) [])
-      (answer (Q + X) 0x345678)
+  pub bit-14 : statuses-0 (waiting 1 3 0 5 3 4 0 0 0x00004000 0 0 4)
       ≡ refusedWith 23 0 (stateOf (waiting 1 3 0 5 3 4 0 0 0x00004000 0 0 4) (hex 10 0x1112131415161718191A) [])
-  pub bit-15 :
-      stepOf (firstField 3 ++ literal 0xA1B2C3D4 ++ camac-8 0x0A620922 0xFFFFFFFD ++ jump 4 ++ camac-4 0x02000102 ++ halt)
-      (stateOf (waiting 1 3 0 5 3 4 0 0 0x00008000 0 0 4) (hex 10 0x1112131415161718191A) [])
-      (answer (Q + X) 0x345678)
+  pub bit-15 : statuses-0 (waiting 1 3 0 5 3 4 0 0 0x00008000 0 0 4)
       ≡ refusedWith 23 0 (stateOf (waiting 1 3 0 5 3 4 0 0 0x00008000 0 0 4) (hex 10 0x1112131415161718191A) [])
-  pub bit-16 :
-      stepOf (firstField 3 ++ literal 0xA1B2C3D4 ++ camac-8 0x0A620922 0xFFFFFFFD ++ jump 4 ++ camac-4 0x02000102 ++ halt)
-      (stateOf (waiting 1 3 0 5 3 4 0 0 0x00010000 0 0 4) (hex 10 0x1112131415161718191A) [])
-      (answer (Q + X) 0x345678)
+  pub bit-16 : statuses-0 (waiting 1 3 0 5 3 4 0 0 0x00010000 0 0 4)
       ≡ wants (operation 9 5 3 2 0x000000 false) (stateOf (waiting 1 2 0 5 3 6 0 1 0x00010000 0 4 2) (hex 10 0x1112131478561718191A) [])
-  pub bit-17 :
-      stepOf (firstField 3 ++ literal 0xA1B2C3D4 ++ camac-8 0x0A620922 0xFFFFFFFD ++ jump 4 ++ camac-4 0x02000102 ++ halt)
-      (stateOf (waiting 1 3 0 5 3 4 0 0 0x00020000 0 0 4) (hex 10 0x1112131415161718191A) [])
-      (answer (Q + X) 0x345678)
+  pub bit-17 : statuses-0 (waiting 1 3 0 5 3 4 0 0 0x00020000 0 0 4)
       ≡ wants (operation 9 5 3 2 0x000000 false) (stateOf (waiting 1 2 0 5 3 6 0 1 0x00020000 0 4 2) (hex 10 0x1112131478561718191A) [])
-  pub bit-18 :
-      stepOf (firstField 3 ++ literal 0xA1B2C3D4 ++ camac-8 0x0A620922 0xFFFFFFFD ++ jump 4 ++ camac-4 0x02000102 ++ halt)
-      (stateOf (waiting 1 3 0 5 3 4 0 0 0x00040000 0 0 4) (hex 10 0x1112131415161718191A) [])
-      (answer (Q + X) 0x345678)
+  pub bit-18 : statuses-0 (waiting 1 3 0 5 3 4 0 0 0x00040000 0 0 4)
       ≡ wants (operation 9 5 3 2 0x000000 false) (stateOf (waiting 1 2 0 5 3 6 0 1 0x00040000 0 4 2) (hex 10 0x1112131478561718191A) [])
-  pub bit-19 :
-      stepOf (firstField 3 ++ literal 0xA1B2C3D4 ++ camac-8 0x0A620922 0xFFFFFFFD ++ jump 4 ++ camac-4 0x02000102 ++ halt)
-      (stateOf (waiting 1 3 0 5 3 4 0 0 0x00080000 0 0 4) (hex 10 0x1112131415161718191A) [])
-      (answer (Q + X) 0x345678)
+  pub bit-19 : statuses-0 (waiting 1 3 0 5 3 4 0 0 0x00080000 0 0 4)
       ≡ refusedWith 23 0 (stateOf (waiting 1 3 0 5 3 4 0 0 0x00080000 0 0 4) (hex 10 0x1112131415161718191A) [])
-  pub bit-20 :
-      stepOf (firstField 3 ++ literal 0xA1B2C3D4 ++ camac-8 0x0A620922 0xFFFFFFFD ++ jump 4 ++ camac-4 0x02000102 ++ halt)
-      (stateOf (waiting 1 3 0 5 3 4 0 0 0x00100000 0 0 4) (hex 10 0x1112131415161718191A) [])
-      (answer (Q + X) 0x345678)
+  pub bit-20 : statuses-0 (waiting 1 3 0 5 3 4 0 0 0x00100000 0 0 4)
       ≡ wants (operation 9 5 3 2 0x000000 false) (stateOf (waiting 1 2 0 5 3 6 0 1 0x00100000 0 4 2) (hex 10 0x1112131478561718191A) [])
-  pub bit-21 :
-      stepOf (firstField 3 ++ literal 0xA1B2C3D4 ++ camac-8 0x0A620922 0xFFFFFFFD ++ jump 4 ++ camac-4 0x02000102 ++ halt)
-      (stateOf (waiting 1 3 0 5 3 4 0 0 0x00200000 0 0 4) (hex 10 0x1112131415161718191A) [])
-      (answer (Q + X) 0x345678)
+  pub bit-21 : statuses-0 (waiting 1 3 0 5 3 4 0 0 0x00200000 0 0 4)
       ≡ wants (operation 9 5 3 2 0x000000 false) (stateOf (waiting 1 2 0 5 3 6 0 1 0x00200000 0 4 2) (hex 10 0x1112131478561718191A) [])
-  pub bit-22 :
-      stepOf (firstField 3 ++ literal 0xA1B2C3D4 ++ camac-8 0x0A620922 0xFFFFFFFD ++ jump 4 ++ camac-4 0x02000102 ++ halt)
-      (stateOf (waiting 1 3 0 5 3 4 0 0 0x00400000 0 0 4) (hex 10 0x1112131415161718191A) [])
-      (answer (Q + X) 0x345678)
+  pub bit-22 : statuses-0 (waiting 1 3 0 5 3 4 0 0 0x00400000 0 0 4)
       ≡ refusedWith 23 0 (stateOf (waiting 1 3 0 5 3 4 0 0 0x00400000 0 0 4) (hex 10 0x1112131415161718191A) [])
-  pub bit-23 :
-      stepOf (firstField 3 ++ literal 0xA1B2C3D4 ++ camac-8 0x0A620922 0xFFFFFFFD ++ jump 4 ++ camac-4 0x02000102 ++ halt)
-      (stateOf (waiting 1 3 0 5 3 4 0 0 0x00800000 0 0 4) (hex 10 0x1112131415161718191A) [])
-      (answer (Q + X) 0x345678)
+  pub bit-23 : statuses-0 (waiting 1 3 0 5 3 4 0 0 0x00800000 0 0 4)
       ≡ wants (operation 9 5 3 2 0x000000 false) (stateOf (waiting 1 2 0 5 3 6 0 1 0x00800000 0 4 2) (hex 10 0x1112131478561718191A) [])
-  pub bit-24 :
-      stepOf (firstField 3 ++ literal 0xA1B2C3D4 ++ camac-8 0x0A620922 0xFFFFFFFD ++ jump 4 ++ camac-4 0x02000102 ++ halt)
-      (stateOf (waiting 1 3 0 5 3 4 0 0 0x01000000 0 0 4) (hex 10 0x1112131415161718191A) [])
-      (answer (Q + X) 0x345678)
+  pub bit-24 : statuses-0 (waiting 1 3 0 5 3 4 0 0 0x01000000 0 0 4)
       ≡ refusedWith 23 0 (stateOf (waiting 1 3 0 5 3 4 0 0 0x01000000 0 0 4) (hex 10 0x1112131415161718191A) [])
-  pub bit-25 :
-      stepOf (firstField 3 ++ literal 0xA1B2C3D4 ++ camac-8 0x0A620922 0xFFFFFFFD ++ jump 4 ++ camac-4 0x02000102 ++ halt)
-      (stateOf (waiting 1 3 0 5 3 4 0 0 0x02000000 0 0 4) (hex 10 0x1112131415161718191A) [])
-      (answer (Q + X) 0x345678)
+  pub bit-25 : statuses-0 (waiting 1 3 0 5 3 4 0 0 0x02000000 0 0 4)
       ≡ refusedWith 23 0 (stateOf (waiting 1 3 0 5 3 4 0 0 0x02000000 0 0 4) (hex 10 0x1112131415161718191A) [])
-  pub bit-26 :
-      stepOf (firstField 3 ++ literal 0xA1B2C3D4 ++ camac-8 0x0A620922 0xFFFFFFFD ++ jump 4 ++ camac-4 0x02000102 ++ halt)
-      (stateOf (waiting 1 3 0 5 3 4 0 0 0x04000000 0 0 4) (hex 10 0x1112131415161718191A) [])
-      (answer (Q + X) 0x345678)
+  pub bit-26 : statuses-0 (waiting 1 3 0 5 3 4 0 0 0x04000000 0 0 4)
       ≡ wants (operation 9 5 3 2 0x000000 false) (stateOf (waiting 1 2 0 5 3 6 0 1 0x04000000 0 4 2) (hex 10 0x1112131478561718191A) [])
-  pub bit-27 :
-      stepOf (firstField 3 ++ literal 0xA1B2C3D4 ++ camac-8 0x0A620922 0xFFFFFFFD ++ jump 4 ++ camac-4 0x02000102 ++ halt)
-      (stateOf (waiting 1 3 0 5 3 4 0 0 0x08000000 0 0 4) (hex 10 0x1112131415161718191A) [])
-      (answer (Q + X) 0x345678)
+  pub bit-27 : statuses-0 (waiting 1 3 0 5 3 4 0 0 0x08000000 0 0 4)
       ≡ refusedWith 23 0 (stateOf (waiting 1 3 0 5 3 4 0 0 0x08000000 0 0 4) (hex 10 0x1112131415161718191A) [])
-  pub bit-28 :
-      stepOf (firstField 3 ++ literal 0xA1B2C3D4 ++ camac-8 0x0A620922 0xFFFFFFFD ++ jump 4 ++ camac-4 0x02000102 ++ halt)
-      (stateOf (waiting 1 3 0 5 3 4 0 0 0x10000000 0 0 4) (hex 10 0x1112131415161718191A) [])
-      (answer (Q + X) 0x345678)
+  pub bit-28 : statuses-0 (waiting 1 3 0 5 3 4 0 0 0x10000000 0 0 4)
       ≡ refusedWith 23 0 (stateOf (waiting 1 3 0 5 3 4 0 0 0x10000000 0 0 4) (hex 10 0x1112131415161718191A) [])
-  pub bit-29 :
-      stepOf (firstField 3 ++ literal 0xA1B2C3D4 ++ camac-8 0x0A620922 0xFFFFFFFD ++ jump 4 ++ camac-4 0x02000102 ++ halt)
-      (stateOf (waiting 1 3 0 5 3 4 0 0 0x20000000 0 0 4) (hex 10 0x1112131415161718191A) [])
-      (answer (Q + X) 0x345678)
+  pub bit-29 : statuses-0 (waiting 1 3 0 5 3 4 0 0 0x20000000 0 0 4)
       ≡ refusedWith 23 0 (stateOf (waiting 1 3 0 5 3 4 0 0 0x20000000 0 0 4) (hex 10 0x1112131415161718191A) [])
-  pub bit-30 :
-      stepOf (firstField 3 ++ literal 0xA1B2C3D4 ++ camac-8 0x0A620922 0xFFFFFFFD ++ jump 4 ++ camac-4 0x02000102 ++ halt)
-      (stateOf (waiting 1 3 0 5 3 4 0 0 0x40000000 0 0 4) (hex 10 0x1112131415161718191A) [])
-      (answer (Q + X) 0x345678)
+  pub bit-30 : statuses-0 (waiting 1 3 0 5 3 4 0 0 0x40000000 0 0 4)
       ≡ refusedWith 23 0 (stateOf (waiting 1 3 0 5 3 4 0 0 0x40000000 0 0 4) (hex 10 0x1112131415161718191A) [])
-  pub bit-31 :
-      stepOf (firstField 3 ++ literal 0xA1B2C3D4 ++ camac-8 0x0A620922 0xFFFFFFFD ++ jump 4 ++ camac-4 0x02000102 ++ halt)
-      (stateOf (waiting 1 3 0 5 3 4 0 0 0x80000000 0 0 4) (hex 10 0x1112131415161718191A) [])
-      (answer (Q + X) 0x345678)
+  pub bit-31 : statuses-0 (waiting 1 3 0 5 3 4 0 0 0x80000000 0 0 4)
       ≡ refusedWith 23 0 (stateOf (waiting 1 3 0 5 3 4 0 0 0x80000000 0 0 4) (hex 10 0x1112131415161718191A) [])
-  pub all-that-fit :
-      stepOf (firstField 3 ++ literal 0xA1B2C3D4 ++ camac-8 0x0A620922 0xFFFFFFFD ++ jump 4 ++ camac-4 0x02000102 ++ halt)
-      (stateOf (waiting 1 3 0 5 3 4 0 0 0x04B70000 0 0 4) (hex 10 0x1112131415161718191A) [])
-      (answer (Q + X) 0x345678)
+  pub all-that-fit : statuses-0 (waiting 1 3 0 5 3 4 0 0 0x04B70000 0 0 4)
       ≡ wants (operation 9 5 3 2 0x000000 false) (stateOf (waiting 1 2 0 5 3 6 0 1 0x04B70000 0 4 2) (hex 10 0x1112131478561718191A) [])
   pub gathered :
       stepOf (firstField 3 ++ literal 0xA1B2C3D4 ++ camac-8 0x0A620922 0xFFFFFFFD ++ jump 4 ++ camac-4 0x02000102 ++ halt)
@@ -521,242 +324,128 @@ pub record Statuses : Type 0 where
       ≡ wantsNone (stateOf (ended 1 0 0 0 0 4 0 1 0x84030080 0 0 4) (hex 10 0x1112131415161718191A) [])
 
 -- note: zeros, or two or four bytes of its buffer below that buffer's mark
+abbrev pub notes-0 : Record → Called
+notes-0 r =
+    stepOf (firstField 3 ++ camac-4 0x02000102 ++ camac-4 0x02100100 ++ camac-4 0x02000102 ++ halt)
+    (stateOf r (hex 4 0x11121314) (hex 4 0x81828384))
+    (answer (Q + X) 0x345678)
+
 pub record Notes : Type 0 where
-  pub buffer-0-offset-0-length-0 :
-      stepOf (firstField 3 ++ camac-4 0x02000102 ++ camac-4 0x02100100 ++ camac-4 0x02000102 ++ halt)
-      (stateOf (waiting 2 1 0 1 0 2 4 2 0x00000000 0 0 0) (hex 4 0x11121314) (hex 4 0x81828384))
-      (answer (Q + X) 0x345678)
+  pub buffer-0-offset-0-length-0 : notes-0 (waiting 2 1 0 1 0 2 4 2 0x00000000 0 0 0)
       ≡ wantsNone (stateOf (ended 3 0 0 0 0 4 4 3 0x00000080 0 2 2) (hex 4 0x11127856) (hex 4 0x81828384))
-  pub buffer-0-offset-1-length-0 :
-      stepOf (firstField 3 ++ camac-4 0x02000102 ++ camac-4 0x02100100 ++ camac-4 0x02000102 ++ halt)
-      (stateOf (waiting 2 1 0 1 0 2 4 2 0x00000000 0 1 0) (hex 4 0x11121314) (hex 4 0x81828384))
-      (answer (Q + X) 0x345678)
+  pub buffer-0-offset-1-length-0 : notes-0 (waiting 2 1 0 1 0 2 4 2 0x00000000 0 1 0)
       ≡ refusedWith 23 0 (stateOf (waiting 2 1 0 1 0 2 4 2 0x00000000 0 1 0) (hex 4 0x11121314) (hex 4 0x81828384))
-  pub buffer-0-offset-2-length-0 :
-      stepOf (firstField 3 ++ camac-4 0x02000102 ++ camac-4 0x02100100 ++ camac-4 0x02000102 ++ halt)
-      (stateOf (waiting 2 1 0 1 0 2 4 2 0x00000000 0 2 0) (hex 4 0x11121314) (hex 4 0x81828384))
-      (answer (Q + X) 0x345678)
+  pub buffer-0-offset-2-length-0 : notes-0 (waiting 2 1 0 1 0 2 4 2 0x00000000 0 2 0)
       ≡ refusedWith 23 0 (stateOf (waiting 2 1 0 1 0 2 4 2 0x00000000 0 2 0) (hex 4 0x11121314) (hex 4 0x81828384))
-  pub buffer-0-offset-0-length-1 :
-      stepOf (firstField 3 ++ camac-4 0x02000102 ++ camac-4 0x02100100 ++ camac-4 0x02000102 ++ halt)
-      (stateOf (waiting 2 1 0 1 0 2 4 2 0x00000000 0 0 1) (hex 4 0x11121314) (hex 4 0x81828384))
-      (answer (Q + X) 0x345678)
+  pub buffer-0-offset-0-length-1 : notes-0 (waiting 2 1 0 1 0 2 4 2 0x00000000 0 0 1)
       ≡ refusedWith 23 0 (stateOf (waiting 2 1 0 1 0 2 4 2 0x00000000 0 0 1) (hex 4 0x11121314) (hex 4 0x81828384))
-  pub buffer-0-offset-1-length-1 :
-      stepOf (firstField 3 ++ camac-4 0x02000102 ++ camac-4 0x02100100 ++ camac-4 0x02000102 ++ halt)
-      (stateOf (waiting 2 1 0 1 0 2 4 2 0x00000000 0 1 1) (hex 4 0x11121314) (hex 4 0x81828384))
-      (answer (Q + X) 0x345678)
+  pub buffer-0-offset-1-length-1 : notes-0 (waiting 2 1 0 1 0 2 4 2 0x00000000 0 1 1)
       ≡ refusedWith 23 0 (stateOf (waiting 2 1 0 1 0 2 4 2 0x00000000 0 1 1) (hex 4 0x11121314) (hex 4 0x81828384))
-  pub buffer-0-offset-2-length-1 :
-      stepOf (firstField 3 ++ camac-4 0x02000102 ++ camac-4 0x02100100 ++ camac-4 0x02000102 ++ halt)
-      (stateOf (waiting 2 1 0 1 0 2 4 2 0x00000000 0 2 1) (hex 4 0x11121314) (hex 4 0x81828384))
-      (answer (Q + X) 0x345678)
+  pub buffer-0-offset-2-length-1 : notes-0 (waiting 2 1 0 1 0 2 4 2 0x00000000 0 2 1)
       ≡ refusedWith 23 0 (stateOf (waiting 2 1 0 1 0 2 4 2 0x00000000 0 2 1) (hex 4 0x11121314) (hex 4 0x81828384))
-  pub buffer-0-offset-0-length-2 :
-      stepOf (firstField 3 ++ camac-4 0x02000102 ++ camac-4 0x02100100 ++ camac-4 0x02000102 ++ halt)
-      (stateOf (waiting 2 1 0 1 0 2 4 2 0x00000000 0 0 2) (hex 4 0x11121314) (hex 4 0x81828384))
-      (answer (Q + X) 0x345678)
+  pub buffer-0-offset-0-length-2 : notes-0 (waiting 2 1 0 1 0 2 4 2 0x00000000 0 0 2)
       ≡ wantsNone (stateOf (ended 3 0 0 0 0 4 4 3 0x00000080 0 2 2) (hex 4 0x11127856) (hex 4 0x81828384))
-  pub buffer-0-offset-1-length-2 :
-      stepOf (firstField 3 ++ camac-4 0x02000102 ++ camac-4 0x02100100 ++ camac-4 0x02000102 ++ halt)
-      (stateOf (waiting 2 1 0 1 0 2 4 2 0x00000000 0 1 2) (hex 4 0x11121314) (hex 4 0x81828384))
-      (answer (Q + X) 0x345678)
+  pub buffer-0-offset-1-length-2 : notes-0 (waiting 2 1 0 1 0 2 4 2 0x00000000 0 1 2)
       ≡ refusedWith 23 0 (stateOf (waiting 2 1 0 1 0 2 4 2 0x00000000 0 1 2) (hex 4 0x11121314) (hex 4 0x81828384))
-  pub buffer-0-offset-2-length-2 :
-      stepOf (firstField 3 ++ camac-4 0x02000102 ++ camac-4 0x02100100 ++ camac-4 0x02000102 ++ halt)
-      (stateOf (waiting 2 1 0 1 0 2 4 2 0x00000000 0 2 2) (hex 4 0x11121314) (hex 4 0x81828384))
-      (answer (Q + X) 0x345678)
+  pub buffer-0-offset-2-length-2 : notes-0 (waiting 2 1 0 1 0 2 4 2 0x00000000 0 2 2)
       ≡ refusedWith 23 0 (stateOf (waiting 2 1 0 1 0 2 4 2 0x00000000 0 2 2) (hex 4 0x11121314) (hex 4 0x81828384))
-  pub buffer-0-offset-0-length-3 :
-      stepOf (firstField 3 ++ camac-4 0x02000102 ++ camac-4 0x02100100 ++ camac-4 0x02000102 ++ halt)
-      (stateOf (waiting 2 1 0 1 0 2 4 2 0x00000000 0 0 3) (hex 4 0x11121314) (hex 4 0x81828384))
-      (answer (Q + X) 0x345678)
+  pub buffer-0-offset-0-length-3 : notes-0 (waiting 2 1 0 1 0 2 4 2 0x00000000 0 0 3)
       ≡ refusedWith 23 0 (stateOf (waiting 2 1 0 1 0 2 4 2 0x00000000 0 0 3) (hex 4 0x11121314) (hex 4 0x81828384))
-  pub buffer-0-offset-1-length-3 :
-      stepOf (firstField 3 ++ camac-4 0x02000102 ++ camac-4 0x02100100 ++ camac-4 0x02000102 ++ halt)
-      (stateOf (waiting 2 1 0 1 0 2 4 2 0x00000000 0 1 3) (hex 4 0x11121314) (hex 4 0x81828384))
-      (answer (Q + X) 0x345678)
+  pub buffer-0-offset-1-length-3 : notes-0 (waiting 2 1 0 1 0 2 4 2 0x00000000 0 1 3)
       ≡ refusedWith 23 0 (stateOf (waiting 2 1 0 1 0 2 4 2 0x00000000 0 1 3) (hex 4 0x11121314) (hex 4 0x81828384))
-  pub buffer-0-offset-0-length-4 :
-      stepOf (firstField 3 ++ camac-4 0x02000102 ++ camac-4 0x02100100 ++ camac-4 0x02000102 ++ halt)
-      (stateOf (waiting 2 1 0 1 0 2 4 2 0x00000000 0 0 4) (hex 4 0x11121314) (hex 4 0x81828384))
-      (answer (Q + X) 0x345678)
+  pub buffer-0-offset-0-length-4 : notes-0 (waiting 2 1 0 1 0 2 4 2 0x00000000 0 0 4)
       ≡ refusedWith 23 0 (stateOf (waiting 2 1 0 1 0 2 4 2 0x00000000 0 0 4) (hex 4 0x11121314) (hex 4 0x81828384))
-  pub buffer-1-offset-0-length-0 :
-      stepOf (firstField 3 ++ camac-4 0x02000102 ++ camac-4 0x02100100 ++ camac-4 0x02000102 ++ halt)
-      (stateOf (waiting 2 1 0 1 0 2 4 2 0x00000000 1 0 0) (hex 4 0x11121314) (hex 4 0x81828384))
-      (answer (Q + X) 0x345678)
+  pub buffer-1-offset-0-length-0 : notes-0 (waiting 2 1 0 1 0 2 4 2 0x00000000 1 0 0)
       ≡ refusedWith 23 0 (stateOf (waiting 2 1 0 1 0 2 4 2 0x00000000 1 0 0) (hex 4 0x11121314) (hex 4 0x81828384))
-  pub buffer-1-offset-1-length-0 :
-      stepOf (firstField 3 ++ camac-4 0x02000102 ++ camac-4 0x02100100 ++ camac-4 0x02000102 ++ halt)
-      (stateOf (waiting 2 1 0 1 0 2 4 2 0x00000000 1 1 0) (hex 4 0x11121314) (hex 4 0x81828384))
-      (answer (Q + X) 0x345678)
+  pub buffer-1-offset-1-length-0 : notes-0 (waiting 2 1 0 1 0 2 4 2 0x00000000 1 1 0)
       ≡ refusedWith 23 0 (stateOf (waiting 2 1 0 1 0 2 4 2 0x00000000 1 1 0) (hex 4 0x11121314) (hex 4 0x81828384))
-  pub buffer-1-offset-2-length-0 :
-      stepOf (firstField 3 ++ camac-4 0x02000102 ++ camac-4 0x02100100 ++ camac-4 0x02000102 ++ halt)
-      (stateOf (waiting 2 1 0 1 0 2 4 2 0x00000000 1 2 0) (hex 4 0x11121314) (hex 4 0x81828384))
-      (answer (Q + X) 0x345678)
+  pub buffer-1-offset-2-length-0 : notes-0 (waiting 2 1 0 1 0 2 4 2 0x00000000 1 2 0)
       ≡ refusedWith 23 0 (stateOf (waiting 2 1 0 1 0 2 4 2 0x00000000 1 2 0) (hex 4 0x11121314) (hex 4 0x81828384))
-  pub buffer-1-offset-0-length-1 :
-      stepOf (firstField 3 ++ camac-4 0x02000102 ++ camac-4 0x02100100 ++ camac-4 0x02000102 ++ halt)
-      (stateOf (waiting 2 1 0 1 0 2 4 2 0x00000000 1 0 1) (hex 4 0x11121314) (hex 4 0x81828384))
-      (answer (Q + X) 0x345678)
+  pub buffer-1-offset-0-length-1 : notes-0 (waiting 2 1 0 1 0 2 4 2 0x00000000 1 0 1)
       ≡ refusedWith 23 0 (stateOf (waiting 2 1 0 1 0 2 4 2 0x00000000 1 0 1) (hex 4 0x11121314) (hex 4 0x81828384))
-  pub buffer-1-offset-1-length-1 :
-      stepOf (firstField 3 ++ camac-4 0x02000102 ++ camac-4 0x02100100 ++ camac-4 0x02000102 ++ halt)
-      (stateOf (waiting 2 1 0 1 0 2 4 2 0x00000000 1 1 1) (hex 4 0x11121314) (hex 4 0x81828384))
-      (answer (Q + X) 0x345678)
+  pub buffer-1-offset-1-length-1 : notes-0 (waiting 2 1 0 1 0 2 4 2 0x00000000 1 1 1)
       ≡ refusedWith 23 0 (stateOf (waiting 2 1 0 1 0 2 4 2 0x00000000 1 1 1) (hex 4 0x11121314) (hex 4 0x81828384))
-  pub buffer-1-offset-2-length-1 :
-      stepOf (firstField 3 ++ camac-4 0x02000102 ++ camac-4 0x02100100 ++ camac-4 0x02000102 ++ halt)
-      (stateOf (waiting 2 1 0 1 0 2 4 2 0x00000000 1 2 1) (hex 4 0x11121314) (hex 4 0x81828384))
-      (answer (Q + X) 0x345678)
+  pub buffer-1-offset-2-length-1 : notes-0 (waiting 2 1 0 1 0 2 4 2 0x00000000 1 2 1)
       ≡ refusedWith 23 0 (stateOf (waiting 2 1 0 1 0 2 4 2 0x00000000 1 2 1) (hex 4 0x11121314) (hex 4 0x81828384))
-  pub buffer-1-offset-0-length-2 :
-      stepOf (firstField 3 ++ camac-4 0x02000102 ++ camac-4 0x02100100 ++ camac-4 0x02000102 ++ halt)
-      (stateOf (waiting 2 1 0 1 0 2 4 2 0x00000000 1 0 2) (hex 4 0x11121314) (hex 4 0x81828384))
-      (answer (Q + X) 0x345678)
+  pub buffer-1-offset-0-length-2 : notes-0 (waiting 2 1 0 1 0 2 4 2 0x00000000 1 0 2)
       ≡ wantsNone (stateOf (ended 3 0 0 0 0 4 4 3 0x00000080 0 2 2) (hex 4 0x11127856) (hex 4 0x81828384))
-  pub buffer-1-offset-1-length-2 :
-      stepOf (firstField 3 ++ camac-4 0x02000102 ++ camac-4 0x02100100 ++ camac-4 0x02000102 ++ halt)
-      (stateOf (waiting 2 1 0 1 0 2 4 2 0x00000000 1 1 2) (hex 4 0x11121314) (hex 4 0x81828384))
-      (answer (Q + X) 0x345678)
+  pub buffer-1-offset-1-length-2 : notes-0 (waiting 2 1 0 1 0 2 4 2 0x00000000 1 1 2)
       ≡ wantsNone (stateOf (ended 3 0 0 0 0 4 4 3 0x00000080 0 2 2) (hex 4 0x11127856) (hex 4 0x81828384))
-  pub buffer-1-offset-2-length-2 :
-      stepOf (firstField 3 ++ camac-4 0x02000102 ++ camac-4 0x02100100 ++ camac-4 0x02000102 ++ halt)
-      (stateOf (waiting 2 1 0 1 0 2 4 2 0x00000000 1 2 2) (hex 4 0x11121314) (hex 4 0x81828384))
-      (answer (Q + X) 0x345678)
+  pub buffer-1-offset-2-length-2 : notes-0 (waiting 2 1 0 1 0 2 4 2 0x00000000 1 2 2)
       ≡ wantsNone (stateOf (ended 3 0 0 0 0 4 4 3 0x00000080 0 2 2) (hex 4 0x11127856) (hex 4 0x81828384))
-  pub buffer-1-offset-0-length-3 :
-      stepOf (firstField 3 ++ camac-4 0x02000102 ++ camac-4 0x02100100 ++ camac-4 0x02000102 ++ halt)
-      (stateOf (waiting 2 1 0 1 0 2 4 2 0x00000000 1 0 3) (hex 4 0x11121314) (hex 4 0x81828384))
-      (answer (Q + X) 0x345678)
+  pub buffer-1-offset-0-length-3 : notes-0 (waiting 2 1 0 1 0 2 4 2 0x00000000 1 0 3)
       ≡ refusedWith 23 0 (stateOf (waiting 2 1 0 1 0 2 4 2 0x00000000 1 0 3) (hex 4 0x11121314) (hex 4 0x81828384))
-  pub buffer-1-offset-1-length-3 :
-      stepOf (firstField 3 ++ camac-4 0x02000102 ++ camac-4 0x02100100 ++ camac-4 0x02000102 ++ halt)
-      (stateOf (waiting 2 1 0 1 0 2 4 2 0x00000000 1 1 3) (hex 4 0x11121314) (hex 4 0x81828384))
-      (answer (Q + X) 0x345678)
+  pub buffer-1-offset-1-length-3 : notes-0 (waiting 2 1 0 1 0 2 4 2 0x00000000 1 1 3)
       ≡ refusedWith 23 0 (stateOf (waiting 2 1 0 1 0 2 4 2 0x00000000 1 1 3) (hex 4 0x11121314) (hex 4 0x81828384))
-  pub buffer-1-offset-0-length-4 :
-      stepOf (firstField 3 ++ camac-4 0x02000102 ++ camac-4 0x02100100 ++ camac-4 0x02000102 ++ halt)
-      (stateOf (waiting 2 1 0 1 0 2 4 2 0x00000000 1 0 4) (hex 4 0x11121314) (hex 4 0x81828384))
-      (answer (Q + X) 0x345678)
+  pub buffer-1-offset-0-length-4 : notes-0 (waiting 2 1 0 1 0 2 4 2 0x00000000 1 0 4)
       ≡ wantsNone (stateOf (ended 3 0 0 0 0 4 4 3 0x00000080 0 2 2) (hex 4 0x11127856) (hex 4 0x81828384))
-  pub buffer-2-offset-0-length-0 :
-      stepOf (firstField 3 ++ camac-4 0x02000102 ++ camac-4 0x02100100 ++ camac-4 0x02000102 ++ halt)
-      (stateOf (waiting 2 1 0 1 0 2 4 2 0x00000000 2 0 0) (hex 4 0x11121314) (hex 4 0x81828384))
-      (answer (Q + X) 0x345678)
+  pub buffer-2-offset-0-length-0 : notes-0 (waiting 2 1 0 1 0 2 4 2 0x00000000 2 0 0)
       ≡ refusedWith 23 0 (stateOf (waiting 2 1 0 1 0 2 4 2 0x00000000 2 0 0) (hex 4 0x11121314) (hex 4 0x81828384))
-  pub buffer-2-offset-0-length-1 :
-      stepOf (firstField 3 ++ camac-4 0x02000102 ++ camac-4 0x02100100 ++ camac-4 0x02000102 ++ halt)
-      (stateOf (waiting 2 1 0 1 0 2 4 2 0x00000000 2 0 1) (hex 4 0x11121314) (hex 4 0x81828384))
-      (answer (Q + X) 0x345678)
+  pub buffer-2-offset-0-length-1 : notes-0 (waiting 2 1 0 1 0 2 4 2 0x00000000 2 0 1)
       ≡ refusedWith 23 0 (stateOf (waiting 2 1 0 1 0 2 4 2 0x00000000 2 0 1) (hex 4 0x11121314) (hex 4 0x81828384))
-  pub buffer-2-offset-0-length-2 :
-      stepOf (firstField 3 ++ camac-4 0x02000102 ++ camac-4 0x02100100 ++ camac-4 0x02000102 ++ halt)
-      (stateOf (waiting 2 1 0 1 0 2 4 2 0x00000000 2 0 2) (hex 4 0x11121314) (hex 4 0x81828384))
-      (answer (Q + X) 0x345678)
+  pub buffer-2-offset-0-length-2 : notes-0 (waiting 2 1 0 1 0 2 4 2 0x00000000 2 0 2)
       ≡ refusedWith 23 0 (stateOf (waiting 2 1 0 1 0 2 4 2 0x00000000 2 0 2) (hex 4 0x11121314) (hex 4 0x81828384))
-  pub buffer-2-offset-0-length-3 :
-      stepOf (firstField 3 ++ camac-4 0x02000102 ++ camac-4 0x02100100 ++ camac-4 0x02000102 ++ halt)
-      (stateOf (waiting 2 1 0 1 0 2 4 2 0x00000000 2 0 3) (hex 4 0x11121314) (hex 4 0x81828384))
-      (answer (Q + X) 0x345678)
+  pub buffer-2-offset-0-length-3 : notes-0 (waiting 2 1 0 1 0 2 4 2 0x00000000 2 0 3)
       ≡ refusedWith 23 0 (stateOf (waiting 2 1 0 1 0 2 4 2 0x00000000 2 0 3) (hex 4 0x11121314) (hex 4 0x81828384))
-  pub buffer-2-offset-0-length-4 :
-      stepOf (firstField 3 ++ camac-4 0x02000102 ++ camac-4 0x02100100 ++ camac-4 0x02000102 ++ halt)
-      (stateOf (waiting 2 1 0 1 0 2 4 2 0x00000000 2 0 4) (hex 4 0x11121314) (hex 4 0x81828384))
-      (answer (Q + X) 0x345678)
+  pub buffer-2-offset-0-length-4 : notes-0 (waiting 2 1 0 1 0 2 4 2 0x00000000 2 0 4)
       ≡ refusedWith 23 0 (stateOf (waiting 2 1 0 1 0 2 4 2 0x00000000 2 0 4) (hex 4 0x11121314) (hex 4 0x81828384))
 
 -- operations and the most still possible: a scan with more words left than positions has its positions and nothing after it
+abbrev pub few-positions-0 : Record → Called
+few-positions-0 r =
+    stepOf (firstField 3 ++ literal 0x00000007 ++ camac-8 0x2DC2093A 0xFFFFFFFD ++ camac-4 0x02000102 ++ halt)
+    (stateOf r (hex 12 0x1112131415161718191A1B1C) [])
+    (answer (Q + X) 0x345678)
+
 pub record FewPositions : Type 0 where
-  pub at-23-13-left-3-most :
-      stepOf (firstField 3 ++ literal 0x00000007 ++ camac-8 0x2DC2093A 0xFFFFFFFD ++ camac-4 0x02000102 ++ halt)
-      (stateOf (waiting 1 3 0 23 13 4 0 1 0x00000000 0 0 0) (hex 12 0x1112131415161718191A1B1C) [])
-      (answer (Q + X) 0x345678)
+  pub at-23-13-left-3-most : few-positions-0 (waiting 1 3 0 23 13 4 0 1 0x00000000 0 0 0)
       ≡ wants (operation 9 23 14 2 0x000000 false) (stateOf (waiting 1 2 0 23 14 6 0 2 0x00000000 0 4 2) (hex 12 0x1112131478561718191A1B1C) [])
-  pub at-23-13-left-3-one-more :
-      stepOf (firstField 3 ++ literal 0x00000007 ++ camac-8 0x2DC2093A 0xFFFFFFFD ++ camac-4 0x02000102 ++ halt)
-      (stateOf (waiting 1 3 0 23 13 4 0 2 0x00000000 0 0 0) (hex 12 0x1112131415161718191A1B1C) [])
-      (answer (Q + X) 0x345678)
+  pub at-23-13-left-3-one-more : few-positions-0 (waiting 1 3 0 23 13 4 0 2 0x00000000 0 0 0)
       ≡ refusedWith 23 0 (stateOf (waiting 1 3 0 23 13 4 0 2 0x00000000 0 0 0) (hex 12 0x1112131415161718191A1B1C) [])
-  pub at-23-14-left-3-most :
-      stepOf (firstField 3 ++ literal 0x00000007 ++ camac-8 0x2DC2093A 0xFFFFFFFD ++ camac-4 0x02000102 ++ halt)
-      (stateOf (waiting 1 3 0 23 14 4 0 3 0x00000000 0 0 0) (hex 12 0x1112131415161718191A1B1C) [])
-      (answer (Q + X) 0x345678)
+  pub at-23-14-left-3-most : few-positions-0 (waiting 1 3 0 23 14 4 0 3 0x00000000 0 0 0)
       ≡ wants (operation 9 23 15 2 0x000000 false) (stateOf (waiting 1 2 0 23 15 6 0 4 0x00000000 0 4 2) (hex 12 0x1112131478561718191A1B1C) [])
-  pub at-23-14-left-3-one-more :
-      stepOf (firstField 3 ++ literal 0x00000007 ++ camac-8 0x2DC2093A 0xFFFFFFFD ++ camac-4 0x02000102 ++ halt)
-      (stateOf (waiting 1 3 0 23 14 4 0 4 0x00000000 0 0 0) (hex 12 0x1112131415161718191A1B1C) [])
-      (answer (Q + X) 0x345678)
+  pub at-23-14-left-3-one-more : few-positions-0 (waiting 1 3 0 23 14 4 0 4 0x00000000 0 0 0)
       ≡ refusedWith 23 0 (stateOf (waiting 1 3 0 23 14 4 0 4 0x00000000 0 0 0) (hex 12 0x1112131415161718191A1B1C) [])
-  pub at-23-15-left-3-most :
-      stepOf (firstField 3 ++ literal 0x00000007 ++ camac-8 0x2DC2093A 0xFFFFFFFD ++ camac-4 0x02000102 ++ halt)
-      (stateOf (waiting 1 3 0 23 15 4 0 4 0x00000000 0 0 0) (hex 12 0x1112131415161718191A1B1C) [])
-      (answer (Q + X) 0x345678)
+  pub at-23-15-left-3-most : few-positions-0 (waiting 1 3 0 23 15 4 0 4 0x00000000 0 0 0)
       ≡ wantsNone (stateOf (ended 1 0 0 0 0 6 0 5 0x90400080 0 4 2) (hex 12 0x1112131478561718191A1B1C) [])
-  pub at-23-15-left-3-one-more :
-      stepOf (firstField 3 ++ literal 0x00000007 ++ camac-8 0x2DC2093A 0xFFFFFFFD ++ camac-4 0x02000102 ++ halt)
-      (stateOf (waiting 1 3 0 23 15 4 0 5 0x00000000 0 0 0) (hex 12 0x1112131415161718191A1B1C) [])
-      (answer (Q + X) 0x345678)
+  pub at-23-15-left-3-one-more : few-positions-0 (waiting 1 3 0 23 15 4 0 5 0x00000000 0 0 0)
       ≡ refusedWith 23 0 (stateOf (waiting 1 3 0 23 15 4 0 5 0x00000000 0 0 0) (hex 12 0x1112131415161718191A1B1C) [])
-  pub at-23-14-left-2-most :
-      stepOf (firstField 3 ++ literal 0x00000007 ++ camac-8 0x2DC2093A 0xFFFFFFFD ++ camac-4 0x02000102 ++ halt)
-      (stateOf (waiting 1 2 0 23 14 6 0 2 0x00000000 0 0 0) (hex 12 0x1112131415161718191A1B1C) [])
-      (answer (Q + X) 0x345678)
+  pub at-23-14-left-2-most : few-positions-0 (waiting 1 2 0 23 14 6 0 2 0x00000000 0 0 0)
       ≡ wants (operation 9 23 15 2 0x000000 false) (stateOf (waiting 1 1 0 23 15 8 0 3 0x00000000 0 6 2) (hex 12 0x1112131415167856191A1B1C) [])
-  pub at-23-14-left-2-one-more :
-      stepOf (firstField 3 ++ literal 0x00000007 ++ camac-8 0x2DC2093A 0xFFFFFFFD ++ camac-4 0x02000102 ++ halt)
-      (stateOf (waiting 1 2 0 23 14 6 0 3 0x00000000 0 0 0) (hex 12 0x1112131415161718191A1B1C) [])
-      (answer (Q + X) 0x345678)
+  pub at-23-14-left-2-one-more : few-positions-0 (waiting 1 2 0 23 14 6 0 3 0x00000000 0 0 0)
       ≡ refusedWith 23 0 (stateOf (waiting 1 2 0 23 14 6 0 3 0x00000000 0 0 0) (hex 12 0x1112131415161718191A1B1C) [])
-  pub at-23-15-left-2-most :
-      stepOf (firstField 3 ++ literal 0x00000007 ++ camac-8 0x2DC2093A 0xFFFFFFFD ++ camac-4 0x02000102 ++ halt)
-      (stateOf (waiting 1 2 0 23 15 6 0 4 0x00000000 0 0 0) (hex 12 0x1112131415161718191A1B1C) [])
-      (answer (Q + X) 0x345678)
+  pub at-23-15-left-2-most : few-positions-0 (waiting 1 2 0 23 15 6 0 4 0x00000000 0 0 0)
       ≡ wantsNone (stateOf (ended 1 0 0 0 0 8 0 5 0x90400080 0 6 2) (hex 12 0x1112131415167856191A1B1C) [])
-  pub at-23-15-left-2-one-more :
-      stepOf (firstField 3 ++ literal 0x00000007 ++ camac-8 0x2DC2093A 0xFFFFFFFD ++ camac-4 0x02000102 ++ halt)
-      (stateOf (waiting 1 2 0 23 15 6 0 5 0x00000000 0 0 0) (hex 12 0x1112131415161718191A1B1C) [])
-      (answer (Q + X) 0x345678)
+  pub at-23-15-left-2-one-more : few-positions-0 (waiting 1 2 0 23 15 6 0 5 0x00000000 0 0 0)
       ≡ refusedWith 23 0 (stateOf (waiting 1 2 0 23 15 6 0 5 0x00000000 0 0 0) (hex 12 0x1112131415161718191A1B1C) [])
-  pub at-23-15-left-1-most :
-      stepOf (firstField 3 ++ literal 0x00000007 ++ camac-8 0x2DC2093A 0xFFFFFFFD ++ camac-4 0x02000102 ++ halt)
-      (stateOf (waiting 1 1 0 23 15 8 0 3 0x00000000 0 0 0) (hex 12 0x1112131415161718191A1B1C) [])
-      (answer (Q + X) 0x345678)
+  pub at-23-15-left-1-most : few-positions-0 (waiting 1 1 0 23 15 8 0 3 0x00000000 0 0 0)
       ≡ wants (operation 1 1 0 0 0x000000 false) (stateOf (waiting 2 1 0 1 0 10 0 4 0x00000000 0 8 2) (hex 12 0x111213141516171878561B1C) [])
-  pub at-23-15-left-1-one-more :
-      stepOf (firstField 3 ++ literal 0x00000007 ++ camac-8 0x2DC2093A 0xFFFFFFFD ++ camac-4 0x02000102 ++ halt)
-      (stateOf (waiting 1 1 0 23 15 8 0 4 0x00000000 0 0 0) (hex 12 0x1112131415161718191A1B1C) [])
-      (answer (Q + X) 0x345678)
+  pub at-23-15-left-1-one-more : few-positions-0 (waiting 1 1 0 23 15 8 0 4 0x00000000 0 0 0)
       ≡ refusedWith 23 0 (stateOf (waiting 1 1 0 23 15 8 0 4 0x00000000 0 0 0) (hex 12 0x1112131415161718191A1B1C) [])
 
 -- 24: ended, before 23, before 22
+abbrev pub order-0 : Record → Called
+order-0 r =
+    stepOf (firstField 3 ++ literal 0xA1B2C3D4 ++ camac-8 0x0A620922 0xFFFFFFFD ++ jump 4 ++ camac-4 0x02000102 ++ halt)
+    (stateOf r (hex 10 0x1112131415161718191A) [])
+    (answer (Q + X) 0x000001)
+
+abbrev pub order-1 : Record → Called
+order-1 r =
+    stepOf (firstField 3 ++ literal 0xA1B2C3D4 ++ camac-8 0x0A620922 0xFFFFFFFD ++ jump 4 ++ camac-4 0x02000102 ++ halt)
+    (stateOf r (hex 10 0x1112131415161718191A) [])
+    (hex 8 0x0400000000000000)
+
 pub record Order : Type 0 where
-  pub ended-record :
-      stepOf (firstField 3 ++ literal 0xA1B2C3D4 ++ camac-8 0x0A620922 0xFFFFFFFD ++ jump 4 ++ camac-4 0x02000102 ++ halt)
-      (stateOf (ended 1 1 0 5 3 8 0 2 0x00000000 0 4 4) (hex 10 0x1112131415161718191A) [])
-      (answer (Q + X) 0x000001)
+  pub ended-record : order-0 (ended 1 1 0 5 3 8 0 2 0x00000000 0 4 4)
       ≡ refusedWith 24 0 (stateOf (ended 1 1 0 5 3 8 0 2 0x00000000 0 4 4) (hex 10 0x1112131415161718191A) [])
-  pub ended-with-zeros :
-      stepOf (firstField 3 ++ literal 0xA1B2C3D4 ++ camac-8 0x0A620922 0xFFFFFFFD ++ jump 4 ++ camac-4 0x02000102 ++ halt)
-      (stateOf (ended 0 0 0 0 0 0 0 0 0x00000000 0 0 0) (hex 10 0x1112131415161718191A) [])
-      (answer (Q + X) 0x000001)
+  pub ended-with-zeros : order-0 (ended 0 0 0 0 0 0 0 0 0x00000000 0 0 0)
       ≡ refusedWith 24 0 (stateOf (ended 0 0 0 0 0 0 0 0 0x00000000 0 0 0) (hex 10 0x1112131415161718191A) [])
-  pub ended-and-unfit :
-      stepOf (firstField 3 ++ literal 0xA1B2C3D4 ++ camac-8 0x0A620922 0xFFFFFFFD ++ jump 4 ++ camac-4 0x02000102 ++ halt)
-      (stateOf (ended 1 1 1 5 3 8 0 2 0x00000000 0 4 4) (hex 10 0x1112131415161718191A) [])
-      (hex 8 0x0400000000000000)
+  pub ended-and-unfit : order-1 (ended 1 1 1 5 3 8 0 2 0x00000000 0 4 4)
       ≡ refusedWith 24 0 (stateOf (ended 1 1 1 5 3 8 0 2 0x00000000 0 4 4) (hex 10 0x1112131415161718191A) [])
-  pub unfit-and-bad-reply :
-      stepOf (firstField 3 ++ literal 0xA1B2C3D4 ++ camac-8 0x0A620922 0xFFFFFFFD ++ jump 4 ++ camac-4 0x02000102 ++ halt)
-      (stateOf (waiting 1 1 1 5 3 8 0 2 0x00000000 0 4 4) (hex 10 0x1112131415161718191A) [])
-      (hex 8 0x0400000000000000)
+  pub unfit-and-bad-reply : order-1 (waiting 1 1 1 5 3 8 0 2 0x00000000 0 4 4)
       ≡ refusedWith 23 0 (stateOf (waiting 1 1 1 5 3 8 0 2 0x00000000 0 4 4) (hex 10 0x1112131415161718191A) [])
-  pub bad-reply :
-      stepOf (firstField 3 ++ literal 0xA1B2C3D4 ++ camac-8 0x0A620922 0xFFFFFFFD ++ jump 4 ++ camac-4 0x02000102 ++ halt)
-      (stateOf (waiting 1 1 0 5 3 8 0 2 0x00000000 0 4 4) (hex 10 0x1112131415161718191A) [])
-      (hex 8 0x0400000000000000)
+  pub bad-reply : order-1 (waiting 1 1 0 5 3 8 0 2 0x00000000 0 4 4)
       ≡ refusedWith 22 0 (stateOf (waiting 1 1 0 5 3 8 0 2 0x00000000 0 4 4) (hex 10 0x1112131415161718191A) [])
 
 -- the refusals of admission, before 24, 23 and 22

@@ -6,7 +6,7 @@ use mathlib.Core.List.{List, [], _++_}
 use Rattle.reply.specs.Effect.{stateOf}
 use Rattle.calls.specs.Calls.{RunThrough, runOf}
 use Rattle.worst_count.specs.Cases.{firstField, jump, literal, halt}
-use Rattle.equations.specs.Forms.{hex, camac-4, camac-8, Q, X, ERR, DERR, TPE, LPE, answer, kind, waiting, ended, refused, ran, part}
+use Rattle.equations.specs.Forms.{hex, camac-4, camac-8, Q, X, ERR, DERR, TPE, LPE, answer, kind, waiting, ended, ran}
 
 -- each end code, behind a word that was moved
 abbrev pub end-codes-0 : List ℕ → RunThrough

@@ -6,7 +6,7 @@ use mathlib.Core.List.{[], _++_}
 use Rattle.reply.specs.Effect.{stateOf}
 use Rattle.calls.specs.Calls.{startOf}
 use Rattle.worst_count.specs.Cases.{firstField, jump, literal, halt}
-use Rattle.equations.specs.Forms.{hex, camac-4, camac-8, waiting, ended, refused, operation, wants, wantsNone, refusedWith}
+use Rattle.equations.specs.Forms.{hex, camac-4, camac-8, waiting, ended, operation, wants, wantsNone, refusedWith}
 
 -- the operation wanted first: crate, N, A, F and data, whether it is enhanced
 pub record Operations : Type 0 where

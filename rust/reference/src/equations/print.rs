@@ -52,7 +52,7 @@ fn statements(module: &Module) -> String {
 }
 
 /// What statements name, by the module that has it.
-const KNOWN: [(&str, &[&str]); 10] = [
+const KNOWN: [(&str, &[&str]); 11] = [
     ("Prim.Native.Nat", &["ℕ", "_+_"]),
     ("mathlib.Core.Path", &["_≡_"]),
     ("mathlib.Core.Bool", &["true", "false"]),
@@ -63,6 +63,7 @@ const KNOWN: [(&str, &[&str]); 10] = [
     ),
     ("Rattle.walk.specs.Admission", &["admitOf"]),
     ("Rattle.reply.specs.Effect", &["stateOf"]),
+    ("Rattle.reply.specs.declared.records.Record", &["Record"]),
     (
         "Rattle.calls.specs.Calls",
         &[
@@ -118,7 +119,8 @@ pub fn is_known(name: &str) -> bool {
 
 /// The `use` lines of what a text names.
 fn uses(body: &str) -> String {
-    let words: BTreeSet<&str> = body.split([' ', '(', ')', '\n']).collect();
+    let lines = body.lines().filter(|line| !line.starts_with("--"));
+    let words: BTreeSet<&str> = lines.flat_map(|line| line.split([' ', '(', ')'])).collect();
     let is_named = |name: &&&str| words.contains(name.trim_matches('_'));
     let mut lines = String::new();
     for (module, names) in KNOWN {
@@ -132,55 +134,114 @@ fn uses(body: &str) -> String {
 
 /// A group's record, behind the calls that several of its equations share.
 fn record_type(group: &Group) -> String {
-    let shared = shared(group);
-    let calls: String = shared.iter().map(shared_call).collect();
-    let fields: String = group.equations.iter().map(|e| field(e, &shared)).collect();
-    let name = type_name(&group.name);
-    let about = &group.about;
+    let mut shared = Shared::of(group);
+    let fields: Vec<String> = group
+        .equations
+        .iter()
+        .map(|equation| field(&equation.name, &shared.sides(&equation.call)))
+        .collect();
+    let (calls, fields) = (shared.definitions.concat(), fields.concat());
+    let (name, about) = (type_name(&group.name), &group.about);
     format!("-- {about}\n{calls}pub record {name} : Type 0 where\n{fields}")
 }
 
-/// A call but for its last argument, and the name that stands for it.
-struct Shared {
+/// A call without one argument, and that argument.
+struct Part {
+    /// Name and type of the argument, for the definition of the call.
+    parameter: (&'static str, &'static str),
+    answer: &'static str,
     call: Vec<String>,
-    name: String,
+    argument: String,
 }
 
-/// The calls of steps and runs that differ in their reply or row alone.
-fn shared(group: &Group) -> Vec<Shared> {
-    let mut counts: Vec<(Vec<String>, usize)> = Vec::new();
-    for equation in &group.equations {
-        let (mut call, _) = sides(&equation.call);
-        call.pop();
-        match counts.iter_mut().find(|(known, _)| *known == call) {
-            Some((_, count)) => *count += 1,
-            None => counts.push((call, 1)),
+/// A step without its reply, and without its record; a run without its row.
+fn parts(call: &Call) -> Vec<Part> {
+    let (mut without_last, _) = sides(call);
+    let last = without_last.pop().unwrap_or_default();
+    match call {
+        Call::Step {
+            record,
+            incoming,
+            outgoing,
+            ..
+        } => {
+            let list = without_last[0].clone();
+            let state = format!("(stateOf r {} {})", hex(incoming), hex(outgoing));
+            let by_record = Part {
+                parameter: (" r", "Record"),
+                answer: "Called",
+                call: vec![list, state, last.clone()],
+                argument: record_form(record),
+            };
+            let by_reply = Part {
+                parameter: ("", "List ℕ"),
+                answer: "Called",
+                call: without_last,
+                argument: last,
+            };
+            vec![by_reply, by_record]
+        }
+        Call::Run { .. } => vec![Part {
+            parameter: ("", "List ℕ"),
+            answer: "RunThrough",
+            call: without_last,
+            argument: last,
+        }],
+        _ => Vec::new(),
+    }
+}
+
+/// The calls of a group that differ in one argument alone, each with a name.
+struct Shared<'a> {
+    group: &'a Group,
+    /// The calls of all equations, without an argument.
+    calls: Vec<Vec<String>>,
+    named: Vec<Vec<String>>,
+    definitions: Vec<String>,
+}
+
+impl Shared<'_> {
+    fn of(group: &Group) -> Shared<'_> {
+        let parts = group.equations.iter().flat_map(|e| parts(&e.call));
+        Shared {
+            group,
+            calls: parts.map(|part| part.call).collect(),
+            named: Vec::new(),
+            definitions: Vec::new(),
         }
     }
-    let calls = counts.into_iter().filter(|(call, count)| {
-        let varies = call.len() == 2 && call[0] != "[]";
-        varies && *count > 1
-    });
-    let named = calls.enumerate().map(|(number, (call, _))| Shared {
-        call,
-        name: format!("{}-{number}", group.name),
-    });
-    named.collect()
+
+    fn is_shared(&self, part: &Part) -> bool {
+        self.calls.iter().filter(|call| **call == part.call).count() > 1
+    }
+
+    /// Both sides of an equation, with the name of a call that others share.
+    fn sides(&mut self, call: &Call) -> (Vec<String>, String) {
+        let (whole, answer) = sides(call);
+        let Some(part) = parts(call).into_iter().find(|part| self.is_shared(part)) else {
+            return (whole, answer);
+        };
+        let known = self.named.iter().position(|call| *call == part.call);
+        let number = known.unwrap_or(self.named.len());
+        let name = format!("{}-{number}", self.group.name);
+        if known.is_none() {
+            self.definitions.push(definition(&name, &part));
+            self.named.push(part.call);
+        }
+        (vec![name, part.argument], answer)
+    }
 }
 
-/// The definition of such a name.
-fn shared_call(shared: &Shared) -> String {
-    let Shared { call, name } = shared;
-    let answer = match call[0].starts_with("runOf") {
-        true => "RunThrough",
-        false => "Called",
-    };
-    let line = format!("{name} = {}", call.join(" "));
+/// The definition of a call that equations share.
+fn definition(name: &str, part: &Part) -> String {
+    let (parameter, its_type) = part.parameter;
+    let line = format!("{name}{parameter} = {}", part.call.join(" "));
     let line = match line.chars().count() <= WIDTH {
         true => line,
-        false => format!("{name} =\n    {}", call.join("\n    ")),
+        false => format!("{name}{parameter} =\n    {}", part.call.join("\n    ")),
     };
-    format!("abbrev pub {name} : List ℕ → {answer}\n{line}\n\n")
+    let answer = part.answer;
+    format!("abbrev pub {name} : {its_type} → {answer}\n{line}\n\n")
 }
 
 /// `one-word` as `OneWord`.
@@ -190,13 +251,7 @@ fn type_name(name: &str) -> String {
 }
 
 /// One equation, on as few lines as it takes.
-fn field(equation: &Equation, shared: &[Shared]) -> String {
-    let name = &equation.name;
-    let (mut call, answer) = sides(&equation.call);
-    let known = shared.iter().find(|s| call.starts_with(&s.call));
-    if let (Some(known), Some(last)) = (known, call.last()) {
-        call = vec![known.name.clone(), last.clone()];
-    }
+fn field(name: &str, (call, answer): &(Vec<String>, String)) -> String {
     let whole = call.join(" ");
     let fits = |line: &str| line.chars().count() <= WIDTH;
     let line = format!("  pub {name} : {whole} ≡ {answer}\n");
