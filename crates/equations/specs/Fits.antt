@@ -1,4 +1,4 @@
--- Step: records at the bounds of each clause of fit and one beyond each (23), 24, 22 and their order.
+-- Step: records at each clause's bound of fit and beyond (23), 24, 22, their order.
 -- Printed with the separate build's answers: cargo run --release --manifest-path rust/Cargo.toml -p reference --example equations write
 use Prim.Native.Nat.{ℕ, _+_}
 use mathlib.Core.Path.{_≡_}

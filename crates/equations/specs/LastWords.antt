@@ -1,4 +1,4 @@
--- The last moved word: parts of either buffer up to its end, and notes that show an empty incoming part.
+-- The last moved word: parts of either buffer, and notes that show none.
 -- Printed with the separate build's answers: cargo run --release --manifest-path rust/Cargo.toml -p reference --example equations write
 use mathlib.Core.Path.{_≡_}
 use mathlib.Core.List.{[]}

@@ -5,5 +5,4 @@ pub mod Replies
 pub mod Fits
 pub mod Runs
 pub mod LastWords
-pub mod RandomSteps
-pub mod RandomRuns
+pub mod Random

@@ -1,4 +1,4 @@
--- Step: one reply to an instruction of every kind, by AD, Q and X; then by the other bits and kinds.
+-- Step: one reply to an instruction of every kind, by AD, Q, X and the other bits.
 -- Printed with the separate build's answers: cargo run --release --manifest-path rust/Cargo.toml -p reference --example equations write
 use Prim.Native.Nat.{ℕ, _+_}
 use mathlib.Core.Path.{_≡_}

@@ -1,4 +1,4 @@
--- The whole run: every end code, rows of all lengths, packing, short blocks, the worst count, refusals.
+-- The whole run: end codes, rows of all lengths, packing, short blocks, W, refusals.
 -- Printed with the separate build's answers: cargo run --release --manifest-path rust/Cargo.toml -p reference --example equations write
 use Prim.Native.Nat.{ℕ, _+_}
 use mathlib.Core.Path.{_≡_}

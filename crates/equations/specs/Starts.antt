@@ -1,4 +1,4 @@
--- Start: the first operation of an instruction of every kind, runs that end at once, refusals.
+-- Start: the first operation of every kind, runs that end at once, refusals.
 -- Printed with the separate build's answers: cargo run --release --manifest-path rust/Cargo.toml -p reference --example equations write
 use mathlib.Core.Path.{_≡_}
 use mathlib.Core.Bool.{true, false}

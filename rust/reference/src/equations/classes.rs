@@ -229,19 +229,16 @@ impl Met {
         classes + &self.coverage.table()
     }
 
-    /// Counts a call that meets something not met before, and says whether it does.
+    /// Whether nothing is missing.
+    pub fn is_complete(&self) -> bool {
+        self.missing().is_empty()
+    }
+
+    /// Counts a call, and says whether it meets something not met before.
     pub fn observe_if_new(&mut self, call: &Call) -> bool {
         let before = self.missing().len();
-        if before == 0 {
-            return false;
-        }
-        let mut with = self.clone();
-        with.observe(call);
-        let is_new = with.missing().len() < before;
-        if is_new {
-            *self = with;
-        }
-        is_new
+        self.observe(call);
+        self.missing().len() < before
     }
 
     /// Counts what a call meets.

@@ -27,7 +27,7 @@ pub fn module() -> Module {
     ]);
     Module {
         name: "Fits",
-        about: "Step: records at the bounds of each clause of fit and one beyond each (23), 24, 22 and their order.",
+        about: "Step: records at each clause's bound of fit and beyond (23), 24, 22, their order.",
         groups,
     }
 }
@@ -155,7 +155,8 @@ fn at_bounds(place: &Place, seen: &mut BTreeSet<Bound>) -> Group {
 
 /// Every bit of the status alone, and all that fit.
 fn statuses() -> Group {
-    let about = "status: bits 16–18, 20, 21, 23 and 26 fit, alone and together, and are kept; no other does";
+    let about = "status: bits 16–18, 20, 21, 23 and 26 fit, alone and together, and are kept; no \
+                 other does";
     let mut group = Group::new("statuses", about);
     let place = &places()[0];
     let reply = ok(0x34_5678);
@@ -225,8 +226,8 @@ fn notes() -> Group {
 
 /// A scan with as many words left as positions, and with more: nothing after it counts.
 fn scans_with_few_positions() -> Group {
-    let about = "operations and the most still possible: a scan with more words left than positions has its \
-                 positions and nothing after it";
+    let about = "operations and the most still possible: a scan with more words left than \
+                 positions has its positions and nothing after it";
     let mut group = Group::new("few-positions", about);
     let scan = Kind {
         mode: Mode::Block,

@@ -7,7 +7,7 @@ use crate::record::Note;
 pub fn module() -> Module {
     Module {
         name: "LastWords",
-        about: "The last moved word: parts of either buffer up to its end, and notes that show an empty incoming part.",
+        about: "The last moved word: parts of either buffer, and notes that show none.",
         groups: vec![ends(), none()],
     }
 }

@@ -9,10 +9,10 @@ pub mod fits;
 pub mod instructions;
 pub mod last_words;
 pub mod print;
+pub mod random;
 pub mod replies;
 pub mod runs;
 pub mod starts;
-pub mod steps;
 
 use crate::record::{Note, Record};
 use crate::run::{run_row, start, step, Answer, RunAnswer};
@@ -138,7 +138,7 @@ pub fn modules() -> Vec<Module> {
         last_words::module(),
     ];
     let mut met = met(&modules);
-    modules.extend([steps::module(&mut met), runs::further(&mut met)]);
+    modules.push(random::module(&mut met));
     modules
 }
 

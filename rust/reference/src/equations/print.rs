@@ -278,7 +278,8 @@ fn proofs(module: &Module) -> String {
         .map(|names| format!("use {specs}.{{{}}}\n", names.join(", ")));
     let values: Vec<String> = module.groups.iter().map(value).collect();
     format!(
-        "-- The equations of specs/{} hold: both sides of each compute to the same.\n-- Printed: {COMMAND}\n\
+        "-- The equations of specs/{} hold: both sides of each compute to the same.\n\
+         -- Printed: {COMMAND}\n\
          use mathlib.Core.Path.{{refl}}\nuse Rattle.worst_count.proofs.Cases.{{opened}}\n{}\n{}",
         module.name,
         uses.collect::<String>(),

@@ -22,7 +22,7 @@ pub fn module() -> Module {
     groups.extend(meetings().iter().map(causes_together));
     Module {
         name: "Replies",
-        about: "Step: one reply to an instruction of every kind, by AD, Q and X; then by the other bits and kinds.",
+        about: "Step: one reply to an instruction of every kind, by AD, Q, X and the other bits.",
         groups,
     }
 }

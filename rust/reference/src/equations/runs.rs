@@ -1,11 +1,9 @@
 //! The whole run: every end code, rows cut short, longer than the run and of no reply, packing,
-//! short blocks and the worst count; then runs of the random generator.
+//! short blocks and the worst count.
 
-use super::classes::Met;
 use super::instructions::{filled, list, refused_lists, Kind, Word};
 use super::{Call, Group, Module};
 use crate::cases::by_hand::{answer, hex, kind, ok, DERR, ERR, LPE, Q, TPE, X};
-use crate::cases::case;
 use crate::cases::coverage::Mode;
 use crate::cases::lists::DraftField;
 use crate::walk::admit;
@@ -14,7 +12,7 @@ use crate::words::Direction;
 pub fn module() -> Module {
     Module {
         name: "Runs",
-        about: "The whole run: every end code, rows of all lengths, packing, short blocks, the worst count, refusals.",
+        about: "The whole run: end codes, rows of all lengths, packing, short blocks, W, refusals.",
         groups: vec![
             end_codes(),
             rows(),
@@ -89,7 +87,8 @@ fn two_words() -> Vec<u8> {
 }
 
 fn rows() -> Group {
-    let about = "rows of no reply, of fewer than the run takes, of as many, of more; rows with a part of 8 bytes";
+    let about = "rows of no reply, of fewer than the run takes, of as many, of more; rows with a \
+                 part of 8 bytes";
     let mut group = Group::new("rows", about);
     let replies = [ok(0x1122), ok(0x3344), ok(0x5566), kind(3)].concat();
     for count in 0..=4 {
@@ -159,7 +158,8 @@ fn literal() -> DraftField {
 }
 
 fn packing() -> Group {
-    let about = "words and literals in the buffers: pads, marks and notes; Q and X above a stored 24-bit word";
+    let about = "words and literals in the buffers: pads, marks and notes; Q and X above a stored \
+                 24-bit word";
     let mut group = Group::new("packing", about);
     let good = ok(0xF1_E2D3);
     let field = |f, wide| single(f, wide).field(None);
@@ -221,7 +221,8 @@ fn followers() -> Vec<(&'static str, DraftField)> {
 }
 
 fn short_blocks() -> Group {
-    let about = "Q = 0 closes a stop block at its first, second or last word; what follows goes on at the marks reached";
+    let about = "Q = 0 closes a stop block at its first, second or last word; what follows goes \
+                 on at the marks reached";
     let mut group = Group::new("short-blocks", about);
     let no_q = answer(X, 0x7788);
     for (mode, direction) in [
@@ -295,56 +296,4 @@ fn refusals() -> Group {
         group.add(name, call);
     }
     group
-}
-
-/// Lists, buffers and rows of more bytes than these aren't taken from the generator.
-const MOST_LIST: usize = 64;
-const MOST_BUFFER: usize = 40;
-const MOST_ROW: usize = 64;
-/// How many cases are looked at, and how many are taken whatever they meet.
-const CASES: u64 = 40_000;
-const ANYWAY: usize = 60;
-
-fn is_small(call: &Call) -> bool {
-    let Call::Run {
-        list,
-        incoming,
-        outgoing,
-        row,
-    } = call
-    else {
-        return false;
-    };
-    let buffers = incoming.len().max(outgoing.len());
-    list.len() <= MOST_LIST && buffers <= MOST_BUFFER && row.len() <= MOST_ROW
-}
-
-/// Runs of the generator: the first small ones, then those that meet something new.
-pub fn further(met: &mut Met) -> Module {
-    let about =
-        "small runs of the random generator, then those that meet what nothing before them met";
-    let mut group = Group::new("random-runs", about);
-    for number in 0..CASES {
-        let case = case(1, number);
-        let call = Call::Run {
-            list: case.list,
-            incoming: case.incoming,
-            outgoing: case.outgoing,
-            row: case.row,
-        };
-        if !is_small(&call) {
-            continue;
-        }
-        if group.equations.len() < ANYWAY {
-            met.observe(&call);
-        } else if !met.observe_if_new(&call) {
-            continue;
-        }
-        group.add(&format!("run-{number}"), call);
-    }
-    Module {
-        name: "RandomRuns",
-        about: "The whole run: cases of the separate build's random generator.",
-        groups: vec![group],
-    }
 }

@@ -8,7 +8,7 @@ use crate::walk::admit;
 pub fn module() -> Module {
     Module {
         name: "Starts",
-        about: "Start: the first operation of an instruction of every kind, runs that end at once, refusals.",
+        about: "Start: the first operation of every kind, runs that end at once, refusals.",
         groups: vec![operations(), ways(), refusals()],
     }
 }
