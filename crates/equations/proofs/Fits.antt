@@ -4,7 +4,7 @@ use mathlib.Core.Path.{refl}
 use Rattle.worst_count.proofs.Cases.{opened}
 use Rattle.equations.specs.Fits.{BlockStopRead16FirstWord, BlockStopRead16LastWord, BlockStopWrite24FirstWord, BlockStopWrite24LastWord, BlockIgnoreRead16FirstWord, BlockIgnoreRead16LastWord, BlockIgnoreWrite24FirstWord, BlockIgnoreWrite24LastWord}
 use Rattle.equations.specs.Fits.{BlockRepeatRead16FirstWord, BlockRepeatRead16LastWord, BlockRepeatWrite24FirstWord, BlockRepeatWrite24LastWord, BlockScanRead16FirstWord, BlockScanRead16LastWord, BlockScanWrite24FirstWord, BlockScanWrite24LastWord}
-use Rattle.equations.specs.Fits.{Statuses, Notes, FewPositions, Order, RefusedLists, Replies}
+use Rattle.equations.specs.Fits.{Instructions, Statuses, Notes, FewPositions, Order, RefusedLists, Replies}
 
 pub block-stop-read-16-first-word : BlockStopRead16FirstWord
 unfolding opened
@@ -142,6 +142,17 @@ pub block-scan-write-24-last-word : BlockScanWrite24LastWord
 unfolding opened
 block-scan-write-24-last-word = record {
   fits = refl;
+}
+
+pub instructions : Instructions
+unfolding opened
+instructions = record {
+  at-literal = refl;
+  at-block = refl;
+  at-jump = refl;
+  at-unreached = refl;
+  at-halt = refl;
+  at-past-last = refl;
 }
 
 pub statuses : Statuses

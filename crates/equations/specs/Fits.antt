@@ -243,6 +243,27 @@ pub record BlockScanWrite24LastWord : Type 0 where
       (answer (Q + X) 0x345678)
       ≡ wantsNone (stateOf (ended 4 0 0 0 0 4 12 4 0x00000080 1 8 4) (hex 4 0x11121314) (hex 12 0x8182838485868788898A8B8C))
 
+-- instruction: a CAMAC one on the walk, and no other
+abbrev pub instructions-0 : Record → Called
+instructions-0 r =
+    stepOf (firstField 3 ++ literal 0xA1B2C3D4 ++ camac-8 0x0A620922 0xFFFFFFFD ++ jump 4 ++ camac-4 0x02000102 ++ halt)
+    (stateOf r (hex 10 0x1112131415161718191A) [])
+    (answer (Q + X) 0x345678)
+
+pub record Instructions : Type 0 where
+  pub at-literal : instructions-0 (waiting 0 3 0 5 3 4 0 0 0x00000000 0 0 4)
+      ≡ refusedWith 23 0 (stateOf (waiting 0 3 0 5 3 4 0 0 0x00000000 0 0 4) (hex 10 0x1112131415161718191A) [])
+  pub at-block : instructions-0 (waiting 1 3 0 5 3 4 0 0 0x00000000 0 0 4)
+      ≡ wants (operation 9 5 3 2 0x000000 false) (stateOf (waiting 1 2 0 5 3 6 0 1 0x00000000 0 4 2) (hex 10 0x1112131478561718191A) [])
+  pub at-jump : instructions-0 (waiting 2 3 0 5 3 4 0 0 0x00000000 0 0 4)
+      ≡ refusedWith 23 0 (stateOf (waiting 2 3 0 5 3 4 0 0 0x00000000 0 0 4) (hex 10 0x1112131415161718191A) [])
+  pub at-unreached : instructions-0 (waiting 3 1 0 1 0 0 0 0 0x00000000 0 0 0)
+      ≡ refusedWith 23 0 (stateOf (waiting 3 1 0 1 0 0 0 0 0x00000000 0 0 0) (hex 10 0x1112131415161718191A) [])
+  pub at-halt : instructions-0 (waiting 4 3 0 5 3 4 0 0 0x00000000 0 0 4)
+      ≡ refusedWith 23 0 (stateOf (waiting 4 3 0 5 3 4 0 0 0x00000000 0 0 4) (hex 10 0x1112131415161718191A) [])
+  pub at-past-last : instructions-0 (waiting 5 3 0 5 3 4 0 0 0x00000000 0 0 4)
+      ≡ refusedWith 23 0 (stateOf (waiting 5 3 0 5 3 4 0 0 0x00000000 0 0 4) (hex 10 0x1112131415161718191A) [])
+
 -- status: bits 16–18, 20, 21, 23 and 26 fit, alone and together, and are kept; no other does
 abbrev pub statuses-0 : Record → Called
 statuses-0 r =

@@ -9,6 +9,7 @@ use super::{ran, started, stepped, Call};
 use crate::cases::calls::{CallCase, Origin};
 use crate::cases::coverage::{Coverage, Mode};
 use crate::cases::Case;
+use crate::list::Instruction;
 use crate::record::{last_moved, Note, Record};
 use crate::refusal::Refusal;
 use crate::reply::{self, Reply};
@@ -49,6 +50,16 @@ pub enum Kept {
     Cause,
 }
 
+/// Where a record stands that isn't at a CAMAC instruction on the walk.
+#[derive(Clone, Copy, Debug, PartialEq, Eq, PartialOrd, Ord)]
+pub enum Elsewhere {
+    Unreached,
+    Jump,
+    Literal,
+    Halt,
+    PastLast,
+}
+
 /// Something that equations must meet.
 #[derive(Clone, Debug, PartialEq, Eq, PartialOrd, Ord)]
 pub enum Class {
@@ -71,6 +82,8 @@ pub enum Class {
     /// A record that fits at this bound; one that doesn't, just beyond it.
     At(Bound),
     Beyond(Bound),
+    /// A record that doesn't fit by where it stands.
+    StandsAt(Elsewhere),
     /// A note of a word moved, by its buffer and length, with a pad before it or without.
     Moved(u64, u64, bool),
     Kept(Kept),
@@ -116,6 +129,14 @@ fn expected() -> Vec<Class> {
     classes.extend(waiting.flat_map(before));
     classes.extend(bounds::expected().into_iter().map(Class::At));
     classes.extend(bounds::expected().into_iter().map(Class::Beyond));
+    let elsewhere = [
+        Elsewhere::Unreached,
+        Elsewhere::Jump,
+        Elsewhere::Literal,
+        Elsewhere::Halt,
+        Elsewhere::PastLast,
+    ];
+    classes.extend(elsewhere.map(Class::StandsAt));
     classes.extend(of_notes());
     classes.extend(of_rows());
     classes
@@ -346,9 +367,25 @@ impl Met {
             23 => {
                 let bounds = bounds_beyond(&admitted, record);
                 bounds.into_iter().for_each(|b| self.met(Class::Beyond(b)));
+                self.observe_standing(&admitted, record);
             }
             _ => {}
         }
+    }
+
+    fn observe_standing(&mut self, admitted: &Admitted, record: &Record) {
+        let number = record.instruction as usize;
+        let is_reached = admitted.walk.contains(&number);
+        self.met(Class::StandsAt(
+            match admitted.list.instructions.get(number) {
+                Some(Instruction::Camac(_)) if is_reached => return,
+                Some(Instruction::Camac(_)) => Elsewhere::Unreached,
+                Some(Instruction::Jump(_)) => Elsewhere::Jump,
+                Some(Instruction::Literal(_)) => Elsewhere::Literal,
+                Some(Instruction::Halt) => Elsewhere::Halt,
+                None => Elsewhere::PastLast,
+            },
+        ));
     }
 
     /// Counts what a reply that was taken meets.

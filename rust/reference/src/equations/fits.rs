@@ -18,6 +18,7 @@ pub fn module() -> Module {
     let mut seen = BTreeSet::new();
     let mut groups: Vec<Group> = places().iter().map(|p| at_bounds(p, &mut seen)).collect();
     groups.extend([
+        instructions(),
         statuses(),
         notes(),
         scans_with_few_positions(),
@@ -149,6 +150,32 @@ fn at_bounds(place: &Place, seen: &mut BTreeSet<Bound>) -> Group {
         if let Some(beyond) = bound.change.made(&place.record).filter(|_| anew) {
             group.add(&bound.change.name(), place.step(beyond, &reply));
         }
+    }
+    group
+}
+
+/// A record at every instruction of a list, and past the last; one is a CAMAC instruction that
+/// no walk comes to, and the record is as that one would have it.
+fn instructions() -> Group {
+    let about = "instruction: a CAMAC one on the walk, and no other";
+    let mut group = Group::new("instructions", about);
+    let place = &places()[0];
+    let names = ["literal", "block", "jump", "unreached", "halt", "past-last"];
+    for (instruction, name) in (0..).zip(names) {
+        let mut record = Record {
+            instruction,
+            ..place.record
+        };
+        if name == "unreached" {
+            record = Record {
+                instruction,
+                words_left: 1,
+                n: 1,
+                ..Record::default()
+            };
+        }
+        let name = format!("at-{name}");
+        group.add(&name, place.step(record, &ok(0x34_5678)));
     }
     group
 }
