@@ -21,11 +21,6 @@ abbrev pub hex : ℕ → ℕ → List ℕ
 hex zero v = []
 hex (suc n) v = v / 256 ^ n % 256 ∷ hex n v
 
--- a field, so many times
-abbrev pub repeated : ℕ → List ℕ → List ℕ
-repeated zero field = []
-repeated (suc n) field = field ++ repeated n field
-
 -- CAMAC fields of length 4 and of length 8
 abbrev pub camac-4 : ℕ → List ℕ
 camac-4 first = 0x10 ∷ 4 ∷ 0 ∷ bytesOf true first

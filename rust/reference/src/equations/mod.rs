@@ -6,6 +6,7 @@ pub mod admissions;
 pub mod bounds;
 pub mod classes;
 pub mod fits;
+mod forms;
 pub mod instructions;
 pub mod last_words;
 pub mod print;
