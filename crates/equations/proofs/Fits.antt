@@ -36,20 +36,39 @@ block-stop-read-16-last-word = record {
   fits = refl;
   words-left-less = refl;
   words-left-more = refl;
+  incoming-mark-less = refl;
+  incoming-mark-more = refl;
+  outgoing-mark-more = refl;
+  operations-more = refl;
+  incoming-mark-more-by-2 = refl;
+  outgoing-mark-more-by-2 = refl;
 }
 
 pub block-stop-write-24-first-word : BlockStopWrite24FirstWord
 unfolding opened
 block-stop-write-24-first-word = record {
   fits = refl;
+  incoming-mark-less = refl;
+  incoming-mark-more = refl;
+  outgoing-mark-more = refl;
+  operations-more = refl;
+  incoming-mark-more-by-2 = refl;
+  outgoing-mark-more-by-2 = refl;
 }
 
 pub block-stop-write-24-last-word : BlockStopWrite24LastWord
 unfolding opened
 block-stop-write-24-last-word = record {
   fits = refl;
+  words-left-more = refl;
+  incoming-mark-less = refl;
+  incoming-mark-more = refl;
   outgoing-mark-less = refl;
+  outgoing-mark-more = refl;
+  operations-more = refl;
   note-buffer-less = refl;
+  incoming-mark-more-by-2 = refl;
+  outgoing-mark-more-by-2 = refl;
 }
 
 pub block-ignore-read-16-first-word : BlockIgnoreRead16FirstWord
@@ -61,25 +80,51 @@ block-ignore-read-16-first-word = record {
   station-more = refl;
   subaddress-less = refl;
   subaddress-more = refl;
+  incoming-mark-less = refl;
+  incoming-mark-more = refl;
+  outgoing-mark-more = refl;
   operations-more = refl;
+  incoming-mark-more-by-2 = refl;
+  outgoing-mark-more-by-2 = refl;
 }
 
 pub block-ignore-read-16-last-word : BlockIgnoreRead16LastWord
 unfolding opened
 block-ignore-read-16-last-word = record {
   fits = refl;
+  words-left-more = refl;
+  incoming-mark-less = refl;
+  incoming-mark-more = refl;
+  outgoing-mark-more = refl;
+  operations-more = refl;
+  incoming-mark-more-by-2 = refl;
+  outgoing-mark-more-by-2 = refl;
 }
 
 pub block-ignore-write-24-first-word : BlockIgnoreWrite24FirstWord
 unfolding opened
 block-ignore-write-24-first-word = record {
   fits = refl;
+  incoming-mark-less = refl;
+  incoming-mark-more = refl;
+  outgoing-mark-more = refl;
+  operations-more = refl;
+  incoming-mark-more-by-2 = refl;
+  outgoing-mark-more-by-2 = refl;
 }
 
 pub block-ignore-write-24-last-word : BlockIgnoreWrite24LastWord
 unfolding opened
 block-ignore-write-24-last-word = record {
   fits = refl;
+  words-left-more = refl;
+  incoming-mark-less = refl;
+  incoming-mark-more = refl;
+  outgoing-mark-less = refl;
+  outgoing-mark-more = refl;
+  operations-more = refl;
+  incoming-mark-more-by-2 = refl;
+  outgoing-mark-more-by-2 = refl;
 }
 
 pub block-repeat-read-16-first-word : BlockRepeatRead16FirstWord
@@ -92,25 +137,54 @@ block-repeat-read-16-first-word = record {
   station-more = refl;
   subaddress-less = refl;
   subaddress-more = refl;
+  incoming-mark-less = refl;
+  incoming-mark-more = refl;
+  outgoing-mark-more = refl;
   operations-more = refl;
+  incoming-mark-more-by-2 = refl;
+  outgoing-mark-more-by-2 = refl;
 }
 
 pub block-repeat-read-16-last-word : BlockRepeatRead16LastWord
 unfolding opened
 block-repeat-read-16-last-word = record {
   fits = refl;
+  words-left-more = refl;
+  tries-less = refl;
+  incoming-mark-less = refl;
+  incoming-mark-more = refl;
+  outgoing-mark-more = refl;
+  operations-more = refl;
+  incoming-mark-more-by-2 = refl;
+  outgoing-mark-more-by-2 = refl;
 }
 
 pub block-repeat-write-24-first-word : BlockRepeatWrite24FirstWord
 unfolding opened
 block-repeat-write-24-first-word = record {
   fits = refl;
+  tries-less = refl;
+  incoming-mark-less = refl;
+  incoming-mark-more = refl;
+  outgoing-mark-more = refl;
+  operations-more = refl;
+  incoming-mark-more-by-2 = refl;
+  outgoing-mark-more-by-2 = refl;
 }
 
 pub block-repeat-write-24-last-word : BlockRepeatWrite24LastWord
 unfolding opened
 block-repeat-write-24-last-word = record {
   fits = refl;
+  words-left-more = refl;
+  tries-less = refl;
+  incoming-mark-less = refl;
+  incoming-mark-more = refl;
+  outgoing-mark-less = refl;
+  outgoing-mark-more = refl;
+  operations-more = refl;
+  incoming-mark-more-by-2 = refl;
+  outgoing-mark-more-by-2 = refl;
 }
 
 pub block-scan-read-16-first-word : BlockScanRead16FirstWord
@@ -120,28 +194,55 @@ block-scan-read-16-first-word = record {
   tries-more = refl;
   station-less = refl;
   subaddress-less = refl;
+  incoming-mark-less = refl;
+  incoming-mark-more = refl;
+  outgoing-mark-more = refl;
   operations-more = refl;
+  incoming-mark-more-by-2 = refl;
+  outgoing-mark-more-by-2 = refl;
 }
 
 pub block-scan-read-16-last-word : BlockScanRead16LastWord
 unfolding opened
 block-scan-read-16-last-word = record {
   fits = refl;
+  words-left-more = refl;
   station-less = refl;
   station-more = refl;
   subaddress-more = refl;
+  incoming-mark-less = refl;
+  incoming-mark-more = refl;
+  outgoing-mark-more = refl;
+  operations-more = refl;
+  incoming-mark-more-by-2 = refl;
+  outgoing-mark-more-by-2 = refl;
 }
 
 pub block-scan-write-24-first-word : BlockScanWrite24FirstWord
 unfolding opened
 block-scan-write-24-first-word = record {
   fits = refl;
+  incoming-mark-less = refl;
+  incoming-mark-more = refl;
+  outgoing-mark-more = refl;
+  operations-more = refl;
+  incoming-mark-more-by-2 = refl;
+  outgoing-mark-more-by-2 = refl;
 }
 
 pub block-scan-write-24-last-word : BlockScanWrite24LastWord
 unfolding opened
 block-scan-write-24-last-word = record {
   fits = refl;
+  words-left-more = refl;
+  station-less = refl;
+  incoming-mark-less = refl;
+  incoming-mark-more = refl;
+  outgoing-mark-less = refl;
+  outgoing-mark-more = refl;
+  operations-more = refl;
+  incoming-mark-more-by-2 = refl;
+  outgoing-mark-more-by-2 = refl;
 }
 
 pub instructions : Instructions

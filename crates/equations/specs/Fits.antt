@@ -71,14 +71,41 @@ pub record BlockStopRead16LastWord : Type 0 where
       ≡ refusedWith 23 0 (stateOf (waiting 1 0 0 5 3 8 0 2 0x00000000 0 4 4) (hex 10 0x1112131415161718191A) [])
   pub words-left-more : block-stop-read-16-last-word-0 (waiting 1 2 0 5 3 8 0 2 0x00000000 0 4 4)
       ≡ refusedWith 23 0 (stateOf (waiting 1 2 0 5 3 8 0 2 0x00000000 0 4 4) (hex 10 0x1112131415161718191A) [])
+  pub incoming-mark-less : block-stop-read-16-last-word-0 (waiting 1 1 0 5 3 7 0 2 0x00000000 0 4 4)
+      ≡ refusedWith 23 0 (stateOf (waiting 1 1 0 5 3 7 0 2 0x00000000 0 4 4) (hex 10 0x1112131415161718191A) [])
+  pub incoming-mark-more : block-stop-read-16-last-word-0 (waiting 1 1 0 5 3 9 0 2 0x00000000 0 4 4)
+      ≡ refusedWith 23 0 (stateOf (waiting 1 1 0 5 3 9 0 2 0x00000000 0 4 4) (hex 10 0x1112131415161718191A) [])
+  pub outgoing-mark-more : block-stop-read-16-last-word-0 (waiting 1 1 0 5 3 8 1 2 0x00000000 0 4 4)
+      ≡ refusedWith 23 0 (stateOf (waiting 1 1 0 5 3 8 1 2 0x00000000 0 4 4) (hex 10 0x1112131415161718191A) [])
+  pub operations-more : block-stop-read-16-last-word-0 (waiting 1 1 0 5 3 8 0 3 0x00000000 0 4 4)
+      ≡ refusedWith 23 0 (stateOf (waiting 1 1 0 5 3 8 0 3 0x00000000 0 4 4) (hex 10 0x1112131415161718191A) [])
+  pub incoming-mark-more-by-2 : block-stop-read-16-last-word-0 (waiting 1 1 0 5 3 10 0 2 0x00000000 0 4 4)
+      ≡ refusedWith 23 0 (stateOf (waiting 1 1 0 5 3 10 0 2 0x00000000 0 4 4) (hex 10 0x1112131415161718191A) [])
+  pub outgoing-mark-more-by-2 : block-stop-read-16-last-word-0 (waiting 1 1 0 5 3 8 2 2 0x00000000 0 4 4)
+      ≡ refusedWith 23 0 (stateOf (waiting 1 1 0 5 3 8 2 2 0x00000000 0 4 4) (hex 10 0x1112131415161718191A) [])
 
 -- a record that fits, and those that one number makes unfit
+abbrev pub block-stop-write-24-first-word-0 : Record → Called
+block-stop-write-24-first-word-0 r =
+    stepOf (firstField 3 ++ literal 0xA1B2C3D4 ++ camac-8 0x0A710920 0xFFFFFFFA ++ jump 4 ++ camac-4 0x02000102 ++ halt)
+    (stateOf r (hex 4 0x11121314) (hex 12 0x8182838485868788898A8B8C))
+    (answer (Q + X) 0x345678)
+
 pub record BlockStopWrite24FirstWord : Type 0 where
-  pub fits :
-      stepOf (firstField 3 ++ literal 0xA1B2C3D4 ++ camac-8 0x0A710920 0xFFFFFFFA ++ jump 4 ++ camac-4 0x02000102 ++ halt)
-      (stateOf (waiting 1 3 0 5 3 4 0 0 0x00000000 0 0 0) (hex 4 0x11121314) (hex 12 0x8182838485868788898A8B8C))
-      (answer (Q + X) 0x345678)
+  pub fits : block-stop-write-24-first-word-0 (waiting 1 3 0 5 3 4 0 0 0x00000000 0 0 0)
       ≡ wants (operation 9 5 3 17 0x878685 false) (stateOf (waiting 1 2 0 5 3 4 4 1 0x00000000 1 0 4) (hex 4 0x11121314) (hex 12 0x8182838485868788898A8B8C))
+  pub incoming-mark-less : block-stop-write-24-first-word-0 (waiting 1 3 0 5 3 3 0 0 0x00000000 0 0 0)
+      ≡ refusedWith 23 0 (stateOf (waiting 1 3 0 5 3 3 0 0 0x00000000 0 0 0) (hex 4 0x11121314) (hex 12 0x8182838485868788898A8B8C))
+  pub incoming-mark-more : block-stop-write-24-first-word-0 (waiting 1 3 0 5 3 5 0 0 0x00000000 0 0 0)
+      ≡ refusedWith 23 0 (stateOf (waiting 1 3 0 5 3 5 0 0 0x00000000 0 0 0) (hex 4 0x11121314) (hex 12 0x8182838485868788898A8B8C))
+  pub outgoing-mark-more : block-stop-write-24-first-word-0 (waiting 1 3 0 5 3 4 1 0 0x00000000 0 0 0)
+      ≡ refusedWith 23 0 (stateOf (waiting 1 3 0 5 3 4 1 0 0x00000000 0 0 0) (hex 4 0x11121314) (hex 12 0x8182838485868788898A8B8C))
+  pub operations-more : block-stop-write-24-first-word-0 (waiting 1 3 0 5 3 4 0 1 0x00000000 0 0 0)
+      ≡ refusedWith 23 0 (stateOf (waiting 1 3 0 5 3 4 0 1 0x00000000 0 0 0) (hex 4 0x11121314) (hex 12 0x8182838485868788898A8B8C))
+  pub incoming-mark-more-by-2 : block-stop-write-24-first-word-0 (waiting 1 3 0 5 3 6 0 0 0x00000000 0 0 0)
+      ≡ refusedWith 23 0 (stateOf (waiting 1 3 0 5 3 6 0 0 0x00000000 0 0 0) (hex 4 0x11121314) (hex 12 0x8182838485868788898A8B8C))
+  pub outgoing-mark-more-by-2 : block-stop-write-24-first-word-0 (waiting 1 3 0 5 3 4 2 0 0x00000000 0 0 0)
+      ≡ refusedWith 23 0 (stateOf (waiting 1 3 0 5 3 4 2 0 0x00000000 0 0 0) (hex 4 0x11121314) (hex 12 0x8182838485868788898A8B8C))
 
 -- a record that fits, and those that one number makes unfit
 abbrev pub block-stop-write-24-last-word-0 : Record → Called
@@ -90,10 +117,24 @@ block-stop-write-24-last-word-0 r =
 pub record BlockStopWrite24LastWord : Type 0 where
   pub fits : block-stop-write-24-last-word-0 (waiting 1 1 0 5 3 4 8 2 0x00000000 1 4 4)
       ≡ wantsNone (stateOf (ended 4 0 0 0 0 4 12 3 0x00000080 1 8 4) (hex 4 0x11121314) (hex 12 0x8182838485868788898A8B8C))
+  pub words-left-more : block-stop-write-24-last-word-0 (waiting 1 2 0 5 3 4 8 2 0x00000000 1 4 4)
+      ≡ refusedWith 23 0 (stateOf (waiting 1 2 0 5 3 4 8 2 0x00000000 1 4 4) (hex 4 0x11121314) (hex 12 0x8182838485868788898A8B8C))
+  pub incoming-mark-less : block-stop-write-24-last-word-0 (waiting 1 1 0 5 3 3 8 2 0x00000000 1 4 4)
+      ≡ refusedWith 23 0 (stateOf (waiting 1 1 0 5 3 3 8 2 0x00000000 1 4 4) (hex 4 0x11121314) (hex 12 0x8182838485868788898A8B8C))
+  pub incoming-mark-more : block-stop-write-24-last-word-0 (waiting 1 1 0 5 3 5 8 2 0x00000000 1 4 4)
+      ≡ refusedWith 23 0 (stateOf (waiting 1 1 0 5 3 5 8 2 0x00000000 1 4 4) (hex 4 0x11121314) (hex 12 0x8182838485868788898A8B8C))
   pub outgoing-mark-less : block-stop-write-24-last-word-0 (waiting 1 1 0 5 3 4 7 2 0x00000000 1 4 4)
       ≡ refusedWith 23 0 (stateOf (waiting 1 1 0 5 3 4 7 2 0x00000000 1 4 4) (hex 4 0x11121314) (hex 12 0x8182838485868788898A8B8C))
+  pub outgoing-mark-more : block-stop-write-24-last-word-0 (waiting 1 1 0 5 3 4 9 2 0x00000000 1 4 4)
+      ≡ refusedWith 23 0 (stateOf (waiting 1 1 0 5 3 4 9 2 0x00000000 1 4 4) (hex 4 0x11121314) (hex 12 0x8182838485868788898A8B8C))
+  pub operations-more : block-stop-write-24-last-word-0 (waiting 1 1 0 5 3 4 8 3 0x00000000 1 4 4)
+      ≡ refusedWith 23 0 (stateOf (waiting 1 1 0 5 3 4 8 3 0x00000000 1 4 4) (hex 4 0x11121314) (hex 12 0x8182838485868788898A8B8C))
   pub note-buffer-less : block-stop-write-24-last-word-0 (waiting 1 1 0 5 3 4 8 2 0x00000000 0 4 4)
       ≡ refusedWith 23 0 (stateOf (waiting 1 1 0 5 3 4 8 2 0x00000000 0 4 4) (hex 4 0x11121314) (hex 12 0x8182838485868788898A8B8C))
+  pub incoming-mark-more-by-2 : block-stop-write-24-last-word-0 (waiting 1 1 0 5 3 6 8 2 0x00000000 1 4 4)
+      ≡ refusedWith 23 0 (stateOf (waiting 1 1 0 5 3 6 8 2 0x00000000 1 4 4) (hex 4 0x11121314) (hex 12 0x8182838485868788898A8B8C))
+  pub outgoing-mark-more-by-2 : block-stop-write-24-last-word-0 (waiting 1 1 0 5 3 4 10 2 0x00000000 1 4 4)
+      ≡ refusedWith 23 0 (stateOf (waiting 1 1 0 5 3 4 10 2 0x00000000 1 4 4) (hex 4 0x11121314) (hex 12 0x8182838485868788898A8B8C))
 
 -- a record that fits, and those that one number makes unfit
 abbrev pub block-ignore-read-16-first-word-0 : Record → Called
@@ -115,32 +156,93 @@ pub record BlockIgnoreRead16FirstWord : Type 0 where
       ≡ refusedWith 23 0 (stateOf (waiting 1 3 0 5 2 4 0 0 0x00000000 0 0 4) (hex 10 0x1112131415161718191A) [])
   pub subaddress-more : block-ignore-read-16-first-word-0 (waiting 1 3 0 5 4 4 0 0 0x00000000 0 0 4)
       ≡ refusedWith 23 0 (stateOf (waiting 1 3 0 5 4 4 0 0 0x00000000 0 0 4) (hex 10 0x1112131415161718191A) [])
+  pub incoming-mark-less : block-ignore-read-16-first-word-0 (waiting 1 3 0 5 3 3 0 0 0x00000000 0 0 4)
+      ≡ refusedWith 23 0 (stateOf (waiting 1 3 0 5 3 3 0 0 0x00000000 0 0 4) (hex 10 0x1112131415161718191A) [])
+  pub incoming-mark-more : block-ignore-read-16-first-word-0 (waiting 1 3 0 5 3 5 0 0 0x00000000 0 0 4)
+      ≡ refusedWith 23 0 (stateOf (waiting 1 3 0 5 3 5 0 0 0x00000000 0 0 4) (hex 10 0x1112131415161718191A) [])
+  pub outgoing-mark-more : block-ignore-read-16-first-word-0 (waiting 1 3 0 5 3 4 1 0 0x00000000 0 0 4)
+      ≡ refusedWith 23 0 (stateOf (waiting 1 3 0 5 3 4 1 0 0x00000000 0 0 4) (hex 10 0x1112131415161718191A) [])
   pub operations-more : block-ignore-read-16-first-word-0 (waiting 1 3 0 5 3 4 0 1 0x00000000 0 0 4)
       ≡ refusedWith 23 0 (stateOf (waiting 1 3 0 5 3 4 0 1 0x00000000 0 0 4) (hex 10 0x1112131415161718191A) [])
+  pub incoming-mark-more-by-2 : block-ignore-read-16-first-word-0 (waiting 1 3 0 5 3 6 0 0 0x00000000 0 0 4)
+      ≡ refusedWith 23 0 (stateOf (waiting 1 3 0 5 3 6 0 0 0x00000000 0 0 4) (hex 10 0x1112131415161718191A) [])
+  pub outgoing-mark-more-by-2 : block-ignore-read-16-first-word-0 (waiting 1 3 0 5 3 4 2 0 0x00000000 0 0 4)
+      ≡ refusedWith 23 0 (stateOf (waiting 1 3 0 5 3 4 2 0 0x00000000 0 0 4) (hex 10 0x1112131415161718191A) [])
 
 -- a record that fits, and those that one number makes unfit
+abbrev pub block-ignore-read-16-last-word-0 : Record → Called
+block-ignore-read-16-last-word-0 r =
+    stepOf (firstField 3 ++ literal 0xA1B2C3D4 ++ camac-8 0x0A62092A 0xFFFFFFFD ++ jump 4 ++ camac-4 0x02000102 ++ halt)
+    (stateOf r (hex 10 0x1112131415161718191A) [])
+    (answer (Q + X) 0x345678)
+
 pub record BlockIgnoreRead16LastWord : Type 0 where
-  pub fits :
-      stepOf (firstField 3 ++ literal 0xA1B2C3D4 ++ camac-8 0x0A62092A 0xFFFFFFFD ++ jump 4 ++ camac-4 0x02000102 ++ halt)
-      (stateOf (waiting 1 1 0 5 3 8 0 2 0x00000000 0 4 4) (hex 10 0x1112131415161718191A) [])
-      (answer (Q + X) 0x345678)
+  pub fits : block-ignore-read-16-last-word-0 (waiting 1 1 0 5 3 8 0 2 0x00000000 0 4 4)
       ≡ wantsNone (stateOf (ended 4 0 0 0 0 10 0 3 0x00000080 0 8 2) (hex 10 0x11121314151617187856) [])
+  pub words-left-more : block-ignore-read-16-last-word-0 (waiting 1 2 0 5 3 8 0 2 0x00000000 0 4 4)
+      ≡ refusedWith 23 0 (stateOf (waiting 1 2 0 5 3 8 0 2 0x00000000 0 4 4) (hex 10 0x1112131415161718191A) [])
+  pub incoming-mark-less : block-ignore-read-16-last-word-0 (waiting 1 1 0 5 3 7 0 2 0x00000000 0 4 4)
+      ≡ refusedWith 23 0 (stateOf (waiting 1 1 0 5 3 7 0 2 0x00000000 0 4 4) (hex 10 0x1112131415161718191A) [])
+  pub incoming-mark-more : block-ignore-read-16-last-word-0 (waiting 1 1 0 5 3 9 0 2 0x00000000 0 4 4)
+      ≡ refusedWith 23 0 (stateOf (waiting 1 1 0 5 3 9 0 2 0x00000000 0 4 4) (hex 10 0x1112131415161718191A) [])
+  pub outgoing-mark-more : block-ignore-read-16-last-word-0 (waiting 1 1 0 5 3 8 1 2 0x00000000 0 4 4)
+      ≡ refusedWith 23 0 (stateOf (waiting 1 1 0 5 3 8 1 2 0x00000000 0 4 4) (hex 10 0x1112131415161718191A) [])
+  pub operations-more : block-ignore-read-16-last-word-0 (waiting 1 1 0 5 3 8 0 3 0x00000000 0 4 4)
+      ≡ refusedWith 23 0 (stateOf (waiting 1 1 0 5 3 8 0 3 0x00000000 0 4 4) (hex 10 0x1112131415161718191A) [])
+  pub incoming-mark-more-by-2 : block-ignore-read-16-last-word-0 (waiting 1 1 0 5 3 10 0 2 0x00000000 0 4 4)
+      ≡ refusedWith 23 0 (stateOf (waiting 1 1 0 5 3 10 0 2 0x00000000 0 4 4) (hex 10 0x1112131415161718191A) [])
+  pub outgoing-mark-more-by-2 : block-ignore-read-16-last-word-0 (waiting 1 1 0 5 3 8 2 2 0x00000000 0 4 4)
+      ≡ refusedWith 23 0 (stateOf (waiting 1 1 0 5 3 8 2 2 0x00000000 0 4 4) (hex 10 0x1112131415161718191A) [])
 
 -- a record that fits, and those that one number makes unfit
+abbrev pub block-ignore-write-24-first-word-0 : Record → Called
+block-ignore-write-24-first-word-0 r =
+    stepOf (firstField 3 ++ literal 0xA1B2C3D4 ++ camac-8 0x0A710928 0xFFFFFFFA ++ jump 4 ++ camac-4 0x02000102 ++ halt)
+    (stateOf r (hex 4 0x11121314) (hex 12 0x8182838485868788898A8B8C))
+    (answer (Q + X) 0x345678)
+
 pub record BlockIgnoreWrite24FirstWord : Type 0 where
-  pub fits :
-      stepOf (firstField 3 ++ literal 0xA1B2C3D4 ++ camac-8 0x0A710928 0xFFFFFFFA ++ jump 4 ++ camac-4 0x02000102 ++ halt)
-      (stateOf (waiting 1 3 0 5 3 4 0 0 0x00000000 0 0 0) (hex 4 0x11121314) (hex 12 0x8182838485868788898A8B8C))
-      (answer (Q + X) 0x345678)
+  pub fits : block-ignore-write-24-first-word-0 (waiting 1 3 0 5 3 4 0 0 0x00000000 0 0 0)
       ≡ wants (operation 9 5 3 17 0x878685 false) (stateOf (waiting 1 2 0 5 3 4 4 1 0x00000000 1 0 4) (hex 4 0x11121314) (hex 12 0x8182838485868788898A8B8C))
+  pub incoming-mark-less : block-ignore-write-24-first-word-0 (waiting 1 3 0 5 3 3 0 0 0x00000000 0 0 0)
+      ≡ refusedWith 23 0 (stateOf (waiting 1 3 0 5 3 3 0 0 0x00000000 0 0 0) (hex 4 0x11121314) (hex 12 0x8182838485868788898A8B8C))
+  pub incoming-mark-more : block-ignore-write-24-first-word-0 (waiting 1 3 0 5 3 5 0 0 0x00000000 0 0 0)
+      ≡ refusedWith 23 0 (stateOf (waiting 1 3 0 5 3 5 0 0 0x00000000 0 0 0) (hex 4 0x11121314) (hex 12 0x8182838485868788898A8B8C))
+  pub outgoing-mark-more : block-ignore-write-24-first-word-0 (waiting 1 3 0 5 3 4 1 0 0x00000000 0 0 0)
+      ≡ refusedWith 23 0 (stateOf (waiting 1 3 0 5 3 4 1 0 0x00000000 0 0 0) (hex 4 0x11121314) (hex 12 0x8182838485868788898A8B8C))
+  pub operations-more : block-ignore-write-24-first-word-0 (waiting 1 3 0 5 3 4 0 1 0x00000000 0 0 0)
+      ≡ refusedWith 23 0 (stateOf (waiting 1 3 0 5 3 4 0 1 0x00000000 0 0 0) (hex 4 0x11121314) (hex 12 0x8182838485868788898A8B8C))
+  pub incoming-mark-more-by-2 : block-ignore-write-24-first-word-0 (waiting 1 3 0 5 3 6 0 0 0x00000000 0 0 0)
+      ≡ refusedWith 23 0 (stateOf (waiting 1 3 0 5 3 6 0 0 0x00000000 0 0 0) (hex 4 0x11121314) (hex 12 0x8182838485868788898A8B8C))
+  pub outgoing-mark-more-by-2 : block-ignore-write-24-first-word-0 (waiting 1 3 0 5 3 4 2 0 0x00000000 0 0 0)
+      ≡ refusedWith 23 0 (stateOf (waiting 1 3 0 5 3 4 2 0 0x00000000 0 0 0) (hex 4 0x11121314) (hex 12 0x8182838485868788898A8B8C))
 
 -- a record that fits, and those that one number makes unfit
+abbrev pub block-ignore-write-24-last-word-0 : Record → Called
+block-ignore-write-24-last-word-0 r =
+    stepOf (firstField 3 ++ literal 0xA1B2C3D4 ++ camac-8 0x0A710928 0xFFFFFFFA ++ jump 4 ++ camac-4 0x02000102 ++ halt)
+    (stateOf r (hex 4 0x11121314) (hex 12 0x8182838485868788898A8B8C))
+    (answer (Q + X) 0x345678)
+
 pub record BlockIgnoreWrite24LastWord : Type 0 where
-  pub fits :
-      stepOf (firstField 3 ++ literal 0xA1B2C3D4 ++ camac-8 0x0A710928 0xFFFFFFFA ++ jump 4 ++ camac-4 0x02000102 ++ halt)
-      (stateOf (waiting 1 1 0 5 3 4 8 2 0x00000000 1 4 4) (hex 4 0x11121314) (hex 12 0x8182838485868788898A8B8C))
-      (answer (Q + X) 0x345678)
+  pub fits : block-ignore-write-24-last-word-0 (waiting 1 1 0 5 3 4 8 2 0x00000000 1 4 4)
       ≡ wantsNone (stateOf (ended 4 0 0 0 0 4 12 3 0x00000080 1 8 4) (hex 4 0x11121314) (hex 12 0x8182838485868788898A8B8C))
+  pub words-left-more : block-ignore-write-24-last-word-0 (waiting 1 2 0 5 3 4 8 2 0x00000000 1 4 4)
+      ≡ refusedWith 23 0 (stateOf (waiting 1 2 0 5 3 4 8 2 0x00000000 1 4 4) (hex 4 0x11121314) (hex 12 0x8182838485868788898A8B8C))
+  pub incoming-mark-less : block-ignore-write-24-last-word-0 (waiting 1 1 0 5 3 3 8 2 0x00000000 1 4 4)
+      ≡ refusedWith 23 0 (stateOf (waiting 1 1 0 5 3 3 8 2 0x00000000 1 4 4) (hex 4 0x11121314) (hex 12 0x8182838485868788898A8B8C))
+  pub incoming-mark-more : block-ignore-write-24-last-word-0 (waiting 1 1 0 5 3 5 8 2 0x00000000 1 4 4)
+      ≡ refusedWith 23 0 (stateOf (waiting 1 1 0 5 3 5 8 2 0x00000000 1 4 4) (hex 4 0x11121314) (hex 12 0x8182838485868788898A8B8C))
+  pub outgoing-mark-less : block-ignore-write-24-last-word-0 (waiting 1 1 0 5 3 4 7 2 0x00000000 1 4 4)
+      ≡ refusedWith 23 0 (stateOf (waiting 1 1 0 5 3 4 7 2 0x00000000 1 4 4) (hex 4 0x11121314) (hex 12 0x8182838485868788898A8B8C))
+  pub outgoing-mark-more : block-ignore-write-24-last-word-0 (waiting 1 1 0 5 3 4 9 2 0x00000000 1 4 4)
+      ≡ refusedWith 23 0 (stateOf (waiting 1 1 0 5 3 4 9 2 0x00000000 1 4 4) (hex 4 0x11121314) (hex 12 0x8182838485868788898A8B8C))
+  pub operations-more : block-ignore-write-24-last-word-0 (waiting 1 1 0 5 3 4 8 3 0x00000000 1 4 4)
+      ≡ refusedWith 23 0 (stateOf (waiting 1 1 0 5 3 4 8 3 0x00000000 1 4 4) (hex 4 0x11121314) (hex 12 0x8182838485868788898A8B8C))
+  pub incoming-mark-more-by-2 : block-ignore-write-24-last-word-0 (waiting 1 1 0 5 3 6 8 2 0x00000000 1 4 4)
+      ≡ refusedWith 23 0 (stateOf (waiting 1 1 0 5 3 6 8 2 0x00000000 1 4 4) (hex 4 0x11121314) (hex 12 0x8182838485868788898A8B8C))
+  pub outgoing-mark-more-by-2 : block-ignore-write-24-last-word-0 (waiting 1 1 0 5 3 4 10 2 0x00000000 1 4 4)
+      ≡ refusedWith 23 0 (stateOf (waiting 1 1 0 5 3 4 10 2 0x00000000 1 4 4) (hex 4 0x11121314) (hex 12 0x8182838485868788898A8B8C))
 
 -- a record that fits, and those that one number makes unfit
 abbrev pub block-repeat-read-16-first-word-0 : Record → Called
@@ -164,32 +266,99 @@ pub record BlockRepeatRead16FirstWord : Type 0 where
       ≡ refusedWith 23 0 (stateOf (waiting 1 3 2 5 2 4 0 2 0x00000000 0 0 4) (hex 10 0x1112131415161718191A) [])
   pub subaddress-more : block-repeat-read-16-first-word-0 (waiting 1 3 2 5 4 4 0 2 0x00000000 0 0 4)
       ≡ refusedWith 23 0 (stateOf (waiting 1 3 2 5 4 4 0 2 0x00000000 0 0 4) (hex 10 0x1112131415161718191A) [])
+  pub incoming-mark-less : block-repeat-read-16-first-word-0 (waiting 1 3 2 5 3 3 0 2 0x00000000 0 0 4)
+      ≡ refusedWith 23 0 (stateOf (waiting 1 3 2 5 3 3 0 2 0x00000000 0 0 4) (hex 10 0x1112131415161718191A) [])
+  pub incoming-mark-more : block-repeat-read-16-first-word-0 (waiting 1 3 2 5 3 5 0 2 0x00000000 0 0 4)
+      ≡ refusedWith 23 0 (stateOf (waiting 1 3 2 5 3 5 0 2 0x00000000 0 0 4) (hex 10 0x1112131415161718191A) [])
+  pub outgoing-mark-more : block-repeat-read-16-first-word-0 (waiting 1 3 2 5 3 4 1 2 0x00000000 0 0 4)
+      ≡ refusedWith 23 0 (stateOf (waiting 1 3 2 5 3 4 1 2 0x00000000 0 0 4) (hex 10 0x1112131415161718191A) [])
   pub operations-more : block-repeat-read-16-first-word-0 (waiting 1 3 2 5 3 4 0 3 0x00000000 0 0 4)
       ≡ refusedWith 23 0 (stateOf (waiting 1 3 2 5 3 4 0 3 0x00000000 0 0 4) (hex 10 0x1112131415161718191A) [])
+  pub incoming-mark-more-by-2 : block-repeat-read-16-first-word-0 (waiting 1 3 2 5 3 6 0 2 0x00000000 0 0 4)
+      ≡ refusedWith 23 0 (stateOf (waiting 1 3 2 5 3 6 0 2 0x00000000 0 0 4) (hex 10 0x1112131415161718191A) [])
+  pub outgoing-mark-more-by-2 : block-repeat-read-16-first-word-0 (waiting 1 3 2 5 3 4 2 2 0x00000000 0 0 4)
+      ≡ refusedWith 23 0 (stateOf (waiting 1 3 2 5 3 4 2 2 0x00000000 0 0 4) (hex 10 0x1112131415161718191A) [])
 
 -- a record that fits, and those that one number makes unfit
+abbrev pub block-repeat-read-16-last-word-0 : Record → Called
+block-repeat-read-16-last-word-0 r =
+    stepOf (firstField 3 ++ literal 0xA1B2C3D4 ++ camac-8 0x0A620932 0xFFFFFFFD ++ jump 4 ++ camac-4 0x02000102 ++ halt)
+    (stateOf r (hex 10 0x1112131415161718191A) [])
+    (answer (Q + X) 0x345678)
+
 pub record BlockRepeatRead16LastWord : Type 0 where
-  pub fits :
-      stepOf (firstField 3 ++ literal 0xA1B2C3D4 ++ camac-8 0x0A620932 0xFFFFFFFD ++ jump 4 ++ camac-4 0x02000102 ++ halt)
-      (stateOf (waiting 1 1 2 5 3 8 0 8 0x00000000 0 4 4) (hex 10 0x1112131415161718191A) [])
-      (answer (Q + X) 0x345678)
+  pub fits : block-repeat-read-16-last-word-0 (waiting 1 1 2 5 3 8 0 8 0x00000000 0 4 4)
       ≡ wantsNone (stateOf (ended 4 0 0 0 0 10 0 9 0x00000080 0 8 2) (hex 10 0x11121314151617187856) [])
+  pub words-left-more : block-repeat-read-16-last-word-0 (waiting 1 2 2 5 3 8 0 8 0x00000000 0 4 4)
+      ≡ refusedWith 23 0 (stateOf (waiting 1 2 2 5 3 8 0 8 0x00000000 0 4 4) (hex 10 0x1112131415161718191A) [])
+  pub tries-less : block-repeat-read-16-last-word-0 (waiting 1 1 1 5 3 8 0 8 0x00000000 0 4 4)
+      ≡ refusedWith 23 0 (stateOf (waiting 1 1 1 5 3 8 0 8 0x00000000 0 4 4) (hex 10 0x1112131415161718191A) [])
+  pub incoming-mark-less : block-repeat-read-16-last-word-0 (waiting 1 1 2 5 3 7 0 8 0x00000000 0 4 4)
+      ≡ refusedWith 23 0 (stateOf (waiting 1 1 2 5 3 7 0 8 0x00000000 0 4 4) (hex 10 0x1112131415161718191A) [])
+  pub incoming-mark-more : block-repeat-read-16-last-word-0 (waiting 1 1 2 5 3 9 0 8 0x00000000 0 4 4)
+      ≡ refusedWith 23 0 (stateOf (waiting 1 1 2 5 3 9 0 8 0x00000000 0 4 4) (hex 10 0x1112131415161718191A) [])
+  pub outgoing-mark-more : block-repeat-read-16-last-word-0 (waiting 1 1 2 5 3 8 1 8 0x00000000 0 4 4)
+      ≡ refusedWith 23 0 (stateOf (waiting 1 1 2 5 3 8 1 8 0x00000000 0 4 4) (hex 10 0x1112131415161718191A) [])
+  pub operations-more : block-repeat-read-16-last-word-0 (waiting 1 1 2 5 3 8 0 9 0x00000000 0 4 4)
+      ≡ refusedWith 23 0 (stateOf (waiting 1 1 2 5 3 8 0 9 0x00000000 0 4 4) (hex 10 0x1112131415161718191A) [])
+  pub incoming-mark-more-by-2 : block-repeat-read-16-last-word-0 (waiting 1 1 2 5 3 10 0 8 0x00000000 0 4 4)
+      ≡ refusedWith 23 0 (stateOf (waiting 1 1 2 5 3 10 0 8 0x00000000 0 4 4) (hex 10 0x1112131415161718191A) [])
+  pub outgoing-mark-more-by-2 : block-repeat-read-16-last-word-0 (waiting 1 1 2 5 3 8 2 8 0x00000000 0 4 4)
+      ≡ refusedWith 23 0 (stateOf (waiting 1 1 2 5 3 8 2 8 0x00000000 0 4 4) (hex 10 0x1112131415161718191A) [])
 
 -- a record that fits, and those that one number makes unfit
+abbrev pub block-repeat-write-24-first-word-0 : Record → Called
+block-repeat-write-24-first-word-0 r =
+    stepOf (firstField 3 ++ literal 0xA1B2C3D4 ++ camac-8 0x0A710930 0xFFFFFFFA ++ jump 4 ++ camac-4 0x02000102 ++ halt)
+    (stateOf r (hex 4 0x11121314) (hex 12 0x8182838485868788898A8B8C))
+    (answer (Q + X) 0x345678)
+
 pub record BlockRepeatWrite24FirstWord : Type 0 where
-  pub fits :
-      stepOf (firstField 3 ++ literal 0xA1B2C3D4 ++ camac-8 0x0A710930 0xFFFFFFFA ++ jump 4 ++ camac-4 0x02000102 ++ halt)
-      (stateOf (waiting 1 3 2 5 3 4 0 2 0x00000000 0 0 0) (hex 4 0x11121314) (hex 12 0x8182838485868788898A8B8C))
-      (answer (Q + X) 0x345678)
+  pub fits : block-repeat-write-24-first-word-0 (waiting 1 3 2 5 3 4 0 2 0x00000000 0 0 0)
       ≡ wants (operation 9 5 3 17 0x878685 false) (stateOf (waiting 1 2 0 5 3 4 4 3 0x00000000 1 0 4) (hex 4 0x11121314) (hex 12 0x8182838485868788898A8B8C))
+  pub tries-less : block-repeat-write-24-first-word-0 (waiting 1 3 1 5 3 4 0 2 0x00000000 0 0 0)
+      ≡ refusedWith 23 0 (stateOf (waiting 1 3 1 5 3 4 0 2 0x00000000 0 0 0) (hex 4 0x11121314) (hex 12 0x8182838485868788898A8B8C))
+  pub incoming-mark-less : block-repeat-write-24-first-word-0 (waiting 1 3 2 5 3 3 0 2 0x00000000 0 0 0)
+      ≡ refusedWith 23 0 (stateOf (waiting 1 3 2 5 3 3 0 2 0x00000000 0 0 0) (hex 4 0x11121314) (hex 12 0x8182838485868788898A8B8C))
+  pub incoming-mark-more : block-repeat-write-24-first-word-0 (waiting 1 3 2 5 3 5 0 2 0x00000000 0 0 0)
+      ≡ refusedWith 23 0 (stateOf (waiting 1 3 2 5 3 5 0 2 0x00000000 0 0 0) (hex 4 0x11121314) (hex 12 0x8182838485868788898A8B8C))
+  pub outgoing-mark-more : block-repeat-write-24-first-word-0 (waiting 1 3 2 5 3 4 1 2 0x00000000 0 0 0)
+      ≡ refusedWith 23 0 (stateOf (waiting 1 3 2 5 3 4 1 2 0x00000000 0 0 0) (hex 4 0x11121314) (hex 12 0x8182838485868788898A8B8C))
+  pub operations-more : block-repeat-write-24-first-word-0 (waiting 1 3 2 5 3 4 0 3 0x00000000 0 0 0)
+      ≡ refusedWith 23 0 (stateOf (waiting 1 3 2 5 3 4 0 3 0x00000000 0 0 0) (hex 4 0x11121314) (hex 12 0x8182838485868788898A8B8C))
+  pub incoming-mark-more-by-2 : block-repeat-write-24-first-word-0 (waiting 1 3 2 5 3 6 0 2 0x00000000 0 0 0)
+      ≡ refusedWith 23 0 (stateOf (waiting 1 3 2 5 3 6 0 2 0x00000000 0 0 0) (hex 4 0x11121314) (hex 12 0x8182838485868788898A8B8C))
+  pub outgoing-mark-more-by-2 : block-repeat-write-24-first-word-0 (waiting 1 3 2 5 3 4 2 2 0x00000000 0 0 0)
+      ≡ refusedWith 23 0 (stateOf (waiting 1 3 2 5 3 4 2 2 0x00000000 0 0 0) (hex 4 0x11121314) (hex 12 0x8182838485868788898A8B8C))
 
 -- a record that fits, and those that one number makes unfit
+abbrev pub block-repeat-write-24-last-word-0 : Record → Called
+block-repeat-write-24-last-word-0 r =
+    stepOf (firstField 3 ++ literal 0xA1B2C3D4 ++ camac-8 0x0A710930 0xFFFFFFFA ++ jump 4 ++ camac-4 0x02000102 ++ halt)
+    (stateOf r (hex 4 0x11121314) (hex 12 0x8182838485868788898A8B8C))
+    (answer (Q + X) 0x345678)
+
 pub record BlockRepeatWrite24LastWord : Type 0 where
-  pub fits :
-      stepOf (firstField 3 ++ literal 0xA1B2C3D4 ++ camac-8 0x0A710930 0xFFFFFFFA ++ jump 4 ++ camac-4 0x02000102 ++ halt)
-      (stateOf (waiting 1 1 2 5 3 4 8 8 0x00000000 1 4 4) (hex 4 0x11121314) (hex 12 0x8182838485868788898A8B8C))
-      (answer (Q + X) 0x345678)
+  pub fits : block-repeat-write-24-last-word-0 (waiting 1 1 2 5 3 4 8 8 0x00000000 1 4 4)
       ≡ wantsNone (stateOf (ended 4 0 0 0 0 4 12 9 0x00000080 1 8 4) (hex 4 0x11121314) (hex 12 0x8182838485868788898A8B8C))
+  pub words-left-more : block-repeat-write-24-last-word-0 (waiting 1 2 2 5 3 4 8 8 0x00000000 1 4 4)
+      ≡ refusedWith 23 0 (stateOf (waiting 1 2 2 5 3 4 8 8 0x00000000 1 4 4) (hex 4 0x11121314) (hex 12 0x8182838485868788898A8B8C))
+  pub tries-less : block-repeat-write-24-last-word-0 (waiting 1 1 1 5 3 4 8 8 0x00000000 1 4 4)
+      ≡ refusedWith 23 0 (stateOf (waiting 1 1 1 5 3 4 8 8 0x00000000 1 4 4) (hex 4 0x11121314) (hex 12 0x8182838485868788898A8B8C))
+  pub incoming-mark-less : block-repeat-write-24-last-word-0 (waiting 1 1 2 5 3 3 8 8 0x00000000 1 4 4)
+      ≡ refusedWith 23 0 (stateOf (waiting 1 1 2 5 3 3 8 8 0x00000000 1 4 4) (hex 4 0x11121314) (hex 12 0x8182838485868788898A8B8C))
+  pub incoming-mark-more : block-repeat-write-24-last-word-0 (waiting 1 1 2 5 3 5 8 8 0x00000000 1 4 4)
+      ≡ refusedWith 23 0 (stateOf (waiting 1 1 2 5 3 5 8 8 0x00000000 1 4 4) (hex 4 0x11121314) (hex 12 0x8182838485868788898A8B8C))
+  pub outgoing-mark-less : block-repeat-write-24-last-word-0 (waiting 1 1 2 5 3 4 7 8 0x00000000 1 4 4)
+      ≡ refusedWith 23 0 (stateOf (waiting 1 1 2 5 3 4 7 8 0x00000000 1 4 4) (hex 4 0x11121314) (hex 12 0x8182838485868788898A8B8C))
+  pub outgoing-mark-more : block-repeat-write-24-last-word-0 (waiting 1 1 2 5 3 4 9 8 0x00000000 1 4 4)
+      ≡ refusedWith 23 0 (stateOf (waiting 1 1 2 5 3 4 9 8 0x00000000 1 4 4) (hex 4 0x11121314) (hex 12 0x8182838485868788898A8B8C))
+  pub operations-more : block-repeat-write-24-last-word-0 (waiting 1 1 2 5 3 4 8 9 0x00000000 1 4 4)
+      ≡ refusedWith 23 0 (stateOf (waiting 1 1 2 5 3 4 8 9 0x00000000 1 4 4) (hex 4 0x11121314) (hex 12 0x8182838485868788898A8B8C))
+  pub incoming-mark-more-by-2 : block-repeat-write-24-last-word-0 (waiting 1 1 2 5 3 6 8 8 0x00000000 1 4 4)
+      ≡ refusedWith 23 0 (stateOf (waiting 1 1 2 5 3 6 8 8 0x00000000 1 4 4) (hex 4 0x11121314) (hex 12 0x8182838485868788898A8B8C))
+  pub outgoing-mark-more-by-2 : block-repeat-write-24-last-word-0 (waiting 1 1 2 5 3 4 10 8 0x00000000 1 4 4)
+      ≡ refusedWith 23 0 (stateOf (waiting 1 1 2 5 3 4 10 8 0x00000000 1 4 4) (hex 4 0x11121314) (hex 12 0x8182838485868788898A8B8C))
 
 -- a record that fits, and those that one number makes unfit
 abbrev pub block-scan-read-16-first-word-0 : Record → Called
@@ -207,8 +376,18 @@ pub record BlockScanRead16FirstWord : Type 0 where
       ≡ refusedWith 23 0 (stateOf (waiting 1 3 0 21 14 4 0 0 0x00000000 0 0 4) (hex 10 0x1112131415161718191A) [])
   pub subaddress-less : block-scan-read-16-first-word-0 (waiting 1 3 0 22 13 4 0 0 0x00000000 0 0 4)
       ≡ refusedWith 23 0 (stateOf (waiting 1 3 0 22 13 4 0 0 0x00000000 0 0 4) (hex 10 0x1112131415161718191A) [])
+  pub incoming-mark-less : block-scan-read-16-first-word-0 (waiting 1 3 0 22 14 3 0 0 0x00000000 0 0 4)
+      ≡ refusedWith 23 0 (stateOf (waiting 1 3 0 22 14 3 0 0 0x00000000 0 0 4) (hex 10 0x1112131415161718191A) [])
+  pub incoming-mark-more : block-scan-read-16-first-word-0 (waiting 1 3 0 22 14 5 0 0 0x00000000 0 0 4)
+      ≡ refusedWith 23 0 (stateOf (waiting 1 3 0 22 14 5 0 0 0x00000000 0 0 4) (hex 10 0x1112131415161718191A) [])
+  pub outgoing-mark-more : block-scan-read-16-first-word-0 (waiting 1 3 0 22 14 4 1 0 0x00000000 0 0 4)
+      ≡ refusedWith 23 0 (stateOf (waiting 1 3 0 22 14 4 1 0 0x00000000 0 0 4) (hex 10 0x1112131415161718191A) [])
   pub operations-more : block-scan-read-16-first-word-0 (waiting 1 3 0 22 14 4 0 1 0x00000000 0 0 4)
       ≡ refusedWith 23 0 (stateOf (waiting 1 3 0 22 14 4 0 1 0x00000000 0 0 4) (hex 10 0x1112131415161718191A) [])
+  pub incoming-mark-more-by-2 : block-scan-read-16-first-word-0 (waiting 1 3 0 22 14 6 0 0 0x00000000 0 0 4)
+      ≡ refusedWith 23 0 (stateOf (waiting 1 3 0 22 14 6 0 0 0x00000000 0 0 4) (hex 10 0x1112131415161718191A) [])
+  pub outgoing-mark-more-by-2 : block-scan-read-16-first-word-0 (waiting 1 3 0 22 14 4 2 0 0x00000000 0 0 4)
+      ≡ refusedWith 23 0 (stateOf (waiting 1 3 0 22 14 4 2 0 0x00000000 0 0 4) (hex 10 0x1112131415161718191A) [])
 
 -- a record that fits, and those that one number makes unfit
 abbrev pub block-scan-read-16-last-word-0 : Record → Called
@@ -220,28 +399,78 @@ block-scan-read-16-last-word-0 r =
 pub record BlockScanRead16LastWord : Type 0 where
   pub fits : block-scan-read-16-last-word-0 (waiting 1 1 0 23 15 8 0 3 0x00000000 0 4 4)
       ≡ wantsNone (stateOf (ended 4 0 0 0 0 10 0 4 0x00000080 0 8 2) (hex 10 0x11121314151617187856) [])
+  pub words-left-more : block-scan-read-16-last-word-0 (waiting 1 2 0 23 15 8 0 3 0x00000000 0 4 4)
+      ≡ refusedWith 23 0 (stateOf (waiting 1 2 0 23 15 8 0 3 0x00000000 0 4 4) (hex 10 0x1112131415161718191A) [])
   pub station-less : block-scan-read-16-last-word-0 (waiting 1 1 0 22 15 8 0 3 0x00000000 0 4 4)
       ≡ refusedWith 23 0 (stateOf (waiting 1 1 0 22 15 8 0 3 0x00000000 0 4 4) (hex 10 0x1112131415161718191A) [])
   pub station-more : block-scan-read-16-last-word-0 (waiting 1 1 0 24 15 8 0 3 0x00000000 0 4 4)
       ≡ refusedWith 23 0 (stateOf (waiting 1 1 0 24 15 8 0 3 0x00000000 0 4 4) (hex 10 0x1112131415161718191A) [])
   pub subaddress-more : block-scan-read-16-last-word-0 (waiting 1 1 0 23 16 8 0 3 0x00000000 0 4 4)
       ≡ refusedWith 23 0 (stateOf (waiting 1 1 0 23 16 8 0 3 0x00000000 0 4 4) (hex 10 0x1112131415161718191A) [])
+  pub incoming-mark-less : block-scan-read-16-last-word-0 (waiting 1 1 0 23 15 7 0 3 0x00000000 0 4 4)
+      ≡ refusedWith 23 0 (stateOf (waiting 1 1 0 23 15 7 0 3 0x00000000 0 4 4) (hex 10 0x1112131415161718191A) [])
+  pub incoming-mark-more : block-scan-read-16-last-word-0 (waiting 1 1 0 23 15 9 0 3 0x00000000 0 4 4)
+      ≡ refusedWith 23 0 (stateOf (waiting 1 1 0 23 15 9 0 3 0x00000000 0 4 4) (hex 10 0x1112131415161718191A) [])
+  pub outgoing-mark-more : block-scan-read-16-last-word-0 (waiting 1 1 0 23 15 8 1 3 0x00000000 0 4 4)
+      ≡ refusedWith 23 0 (stateOf (waiting 1 1 0 23 15 8 1 3 0x00000000 0 4 4) (hex 10 0x1112131415161718191A) [])
+  pub operations-more : block-scan-read-16-last-word-0 (waiting 1 1 0 23 15 8 0 4 0x00000000 0 4 4)
+      ≡ refusedWith 23 0 (stateOf (waiting 1 1 0 23 15 8 0 4 0x00000000 0 4 4) (hex 10 0x1112131415161718191A) [])
+  pub incoming-mark-more-by-2 : block-scan-read-16-last-word-0 (waiting 1 1 0 23 15 10 0 3 0x00000000 0 4 4)
+      ≡ refusedWith 23 0 (stateOf (waiting 1 1 0 23 15 10 0 3 0x00000000 0 4 4) (hex 10 0x1112131415161718191A) [])
+  pub outgoing-mark-more-by-2 : block-scan-read-16-last-word-0 (waiting 1 1 0 23 15 8 2 3 0x00000000 0 4 4)
+      ≡ refusedWith 23 0 (stateOf (waiting 1 1 0 23 15 8 2 3 0x00000000 0 4 4) (hex 10 0x1112131415161718191A) [])
 
 -- a record that fits, and those that one number makes unfit
+abbrev pub block-scan-write-24-first-word-0 : Record → Called
+block-scan-write-24-first-word-0 r =
+    stepOf (firstField 3 ++ literal 0xA1B2C3D4 ++ camac-8 0x2DD10938 0xFFFFFFFA ++ jump 4 ++ camac-4 0x02000102 ++ halt)
+    (stateOf r (hex 4 0x11121314) (hex 12 0x8182838485868788898A8B8C))
+    (answer (Q + X) 0x345678)
+
 pub record BlockScanWrite24FirstWord : Type 0 where
-  pub fits :
-      stepOf (firstField 3 ++ literal 0xA1B2C3D4 ++ camac-8 0x2DD10938 0xFFFFFFFA ++ jump 4 ++ camac-4 0x02000102 ++ halt)
-      (stateOf (waiting 1 3 0 22 14 4 0 0 0x00000000 0 0 0) (hex 4 0x11121314) (hex 12 0x8182838485868788898A8B8C))
-      (answer (Q + X) 0x345678)
+  pub fits : block-scan-write-24-first-word-0 (waiting 1 3 0 22 14 4 0 0 0x00000000 0 0 0)
       ≡ wants (operation 9 22 15 17 0x878685 false) (stateOf (waiting 1 2 0 22 15 4 4 1 0x00000000 1 0 4) (hex 4 0x11121314) (hex 12 0x8182838485868788898A8B8C))
+  pub incoming-mark-less : block-scan-write-24-first-word-0 (waiting 1 3 0 22 14 3 0 0 0x00000000 0 0 0)
+      ≡ refusedWith 23 0 (stateOf (waiting 1 3 0 22 14 3 0 0 0x00000000 0 0 0) (hex 4 0x11121314) (hex 12 0x8182838485868788898A8B8C))
+  pub incoming-mark-more : block-scan-write-24-first-word-0 (waiting 1 3 0 22 14 5 0 0 0x00000000 0 0 0)
+      ≡ refusedWith 23 0 (stateOf (waiting 1 3 0 22 14 5 0 0 0x00000000 0 0 0) (hex 4 0x11121314) (hex 12 0x8182838485868788898A8B8C))
+  pub outgoing-mark-more : block-scan-write-24-first-word-0 (waiting 1 3 0 22 14 4 1 0 0x00000000 0 0 0)
+      ≡ refusedWith 23 0 (stateOf (waiting 1 3 0 22 14 4 1 0 0x00000000 0 0 0) (hex 4 0x11121314) (hex 12 0x8182838485868788898A8B8C))
+  pub operations-more : block-scan-write-24-first-word-0 (waiting 1 3 0 22 14 4 0 1 0x00000000 0 0 0)
+      ≡ refusedWith 23 0 (stateOf (waiting 1 3 0 22 14 4 0 1 0x00000000 0 0 0) (hex 4 0x11121314) (hex 12 0x8182838485868788898A8B8C))
+  pub incoming-mark-more-by-2 : block-scan-write-24-first-word-0 (waiting 1 3 0 22 14 6 0 0 0x00000000 0 0 0)
+      ≡ refusedWith 23 0 (stateOf (waiting 1 3 0 22 14 6 0 0 0x00000000 0 0 0) (hex 4 0x11121314) (hex 12 0x8182838485868788898A8B8C))
+  pub outgoing-mark-more-by-2 : block-scan-write-24-first-word-0 (waiting 1 3 0 22 14 4 2 0 0x00000000 0 0 0)
+      ≡ refusedWith 23 0 (stateOf (waiting 1 3 0 22 14 4 2 0 0x00000000 0 0 0) (hex 4 0x11121314) (hex 12 0x8182838485868788898A8B8C))
 
 -- a record that fits, and those that one number makes unfit
+abbrev pub block-scan-write-24-last-word-0 : Record → Called
+block-scan-write-24-last-word-0 r =
+    stepOf (firstField 3 ++ literal 0xA1B2C3D4 ++ camac-8 0x2DD10938 0xFFFFFFFA ++ jump 4 ++ camac-4 0x02000102 ++ halt)
+    (stateOf r (hex 4 0x11121314) (hex 12 0x8182838485868788898A8B8C))
+    (answer (Q + X) 0x345678)
+
 pub record BlockScanWrite24LastWord : Type 0 where
-  pub fits :
-      stepOf (firstField 3 ++ literal 0xA1B2C3D4 ++ camac-8 0x2DD10938 0xFFFFFFFA ++ jump 4 ++ camac-4 0x02000102 ++ halt)
-      (stateOf (waiting 1 1 0 23 15 4 8 3 0x00000000 1 4 4) (hex 4 0x11121314) (hex 12 0x8182838485868788898A8B8C))
-      (answer (Q + X) 0x345678)
+  pub fits : block-scan-write-24-last-word-0 (waiting 1 1 0 23 15 4 8 3 0x00000000 1 4 4)
       ≡ wantsNone (stateOf (ended 4 0 0 0 0 4 12 4 0x00000080 1 8 4) (hex 4 0x11121314) (hex 12 0x8182838485868788898A8B8C))
+  pub words-left-more : block-scan-write-24-last-word-0 (waiting 1 2 0 23 15 4 8 3 0x00000000 1 4 4)
+      ≡ refusedWith 23 0 (stateOf (waiting 1 2 0 23 15 4 8 3 0x00000000 1 4 4) (hex 4 0x11121314) (hex 12 0x8182838485868788898A8B8C))
+  pub station-less : block-scan-write-24-last-word-0 (waiting 1 1 0 22 15 4 8 3 0x00000000 1 4 4)
+      ≡ refusedWith 23 0 (stateOf (waiting 1 1 0 22 15 4 8 3 0x00000000 1 4 4) (hex 4 0x11121314) (hex 12 0x8182838485868788898A8B8C))
+  pub incoming-mark-less : block-scan-write-24-last-word-0 (waiting 1 1 0 23 15 3 8 3 0x00000000 1 4 4)
+      ≡ refusedWith 23 0 (stateOf (waiting 1 1 0 23 15 3 8 3 0x00000000 1 4 4) (hex 4 0x11121314) (hex 12 0x8182838485868788898A8B8C))
+  pub incoming-mark-more : block-scan-write-24-last-word-0 (waiting 1 1 0 23 15 5 8 3 0x00000000 1 4 4)
+      ≡ refusedWith 23 0 (stateOf (waiting 1 1 0 23 15 5 8 3 0x00000000 1 4 4) (hex 4 0x11121314) (hex 12 0x8182838485868788898A8B8C))
+  pub outgoing-mark-less : block-scan-write-24-last-word-0 (waiting 1 1 0 23 15 4 7 3 0x00000000 1 4 4)
+      ≡ refusedWith 23 0 (stateOf (waiting 1 1 0 23 15 4 7 3 0x00000000 1 4 4) (hex 4 0x11121314) (hex 12 0x8182838485868788898A8B8C))
+  pub outgoing-mark-more : block-scan-write-24-last-word-0 (waiting 1 1 0 23 15 4 9 3 0x00000000 1 4 4)
+      ≡ refusedWith 23 0 (stateOf (waiting 1 1 0 23 15 4 9 3 0x00000000 1 4 4) (hex 4 0x11121314) (hex 12 0x8182838485868788898A8B8C))
+  pub operations-more : block-scan-write-24-last-word-0 (waiting 1 1 0 23 15 4 8 4 0x00000000 1 4 4)
+      ≡ refusedWith 23 0 (stateOf (waiting 1 1 0 23 15 4 8 4 0x00000000 1 4 4) (hex 4 0x11121314) (hex 12 0x8182838485868788898A8B8C))
+  pub incoming-mark-more-by-2 : block-scan-write-24-last-word-0 (waiting 1 1 0 23 15 6 8 3 0x00000000 1 4 4)
+      ≡ refusedWith 23 0 (stateOf (waiting 1 1 0 23 15 6 8 3 0x00000000 1 4 4) (hex 4 0x11121314) (hex 12 0x8182838485868788898A8B8C))
+  pub outgoing-mark-more-by-2 : block-scan-write-24-last-word-0 (waiting 1 1 0 23 15 4 10 3 0x00000000 1 4 4)
+      ≡ refusedWith 23 0 (stateOf (waiting 1 1 0 23 15 4 10 3 0x00000000 1 4 4) (hex 4 0x11121314) (hex 12 0x8182838485868788898A8B8C))
 
 -- instruction: a CAMAC one on the walk, and no other
 abbrev pub instructions-0 : Record → Called

@@ -139,15 +139,20 @@ fn note(record: &Record, direction: Direction) -> Note {
     }
 }
 
-/// The record, and each that is beyond one of its bounds which no place before was at.
+/// The record, and those beyond its bounds: of marks and operations at every place, of the
+/// others where no place before was at them. The status has a group of its own.
 fn at_bounds(place: &Place, seen: &mut BTreeSet<Bound>) -> Group {
     let about = "a record that fits, and those that one number makes unfit";
     let mut group = Group::new(&place.name, about);
     let reply = ok(0x34_5678);
     group.add("fits", place.step(place.record, &reply));
     for bound in bounds_at(&place.admitted(), &place.record) {
-        let anew = bound.clause != Clause::Status && seen.insert(bound);
-        if let Some(beyond) = bound.change.made(&place.record).filter(|_| anew) {
+        let is_taken = match bound.clause {
+            Clause::Status => false,
+            Clause::Marks | Clause::Operations => true,
+            _ => seen.insert(bound),
+        };
+        if let Some(beyond) = bound.change.made(&place.record).filter(|_| is_taken) {
             group.add(&bound.change.name(), place.step(beyond, &reply));
         }
     }
