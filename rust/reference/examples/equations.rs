@@ -3,7 +3,7 @@
 
 use std::path::Path;
 
-use reference::equations::{all, met, modules, print};
+use reference::equations::{all, classes::Met, met, modules, print};
 
 fn main() {
     let modules = modules();
@@ -19,7 +19,9 @@ fn main() {
         eprintln!("{:>6} {}", module.equations().count(), module.name);
     }
     eprintln!("{:>6} equations", all(&modules).count());
-    eprintln!("not met: {:?}", met(&modules).missing());
+    let expected = Met::expecting().missing().len();
+    let missing = met(&modules).missing();
+    eprintln!("{expected:>6} classes; not met: {missing:?}");
 }
 
 fn write(files: &[(String, String)]) {

@@ -501,7 +501,8 @@ impl Met {
             (2.., _) => Class::NoBuffer,
             _ if *note == Note::default() => Class::NoWord,
             (_, 0) => Class::NoLength,
-            (buffer, _) => Class::PastEnd(buffer),
+            (buffer, _) if end == lengths[buffer as usize] + 1 => Class::PastEnd(buffer),
+            _ => return,
         });
     }
 }
