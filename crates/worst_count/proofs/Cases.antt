@@ -15,12 +15,12 @@ use Rattle.reply.specs.Causes.{causeChecks, causesOf, codeOf}
 use Rattle.reply.specs.Status.{flagsOf}
 use Rattle.reply.specs.Effect.{endedAt, waitsFor, putLiteral, runOn, movedRecord, movedBytes, moveWord, counted, waiting, goOn, byCauses, takeReply}
 use Rattle.calls.specs.Fit.{marksFit, noteFits, fitsAt, fitsFrom, fits}
-use Rattle.calls.specs.Calls.{wordWanted, operationOf, wantedAt, wantedOf, begun, startOf, takeFrom, takeAt, stepOf, stepsOver, runOf}
+use Rattle.calls.specs.Calls.{wordWanted, operationOf, wantedAt, wantedOf, begun, startOf, takeFrom, takeAt, stepOf, stepsOver, runOf, liesIn, lastMoved}
 use Rattle.worst_count.specs.Cases.{Cases}
 
--- opens every definition that a case computes with
-opened : ℕ
-unfolding positions stations afterOther afterDone addressIn blockWords transferIn commandIn qmodeOf addressOf wordsOf directionOf isEnhanced isBlock camacFault decodeOf padAt alignedMark widthOf markAfter stored wordAt byteAt shortAt longAt firstAt secondAt headFault bodyOf fieldOf firstFault fieldsFrom firstBadJump programOf walkFrom walkOf upTo onFrom moved movedWords marksAfter marksOver worstWords worstOf worstOver planOf countsOf prepare admitOf answerIn hasForm replyOf cutRow repliesIn allFormed leaves causeChecks causesOf codeOf flagsOf endedAt waitsFor putLiteral runOn movedRecord movedBytes moveWord counted waiting triesAfter positionAfter goOn byCauses takeReply mostLeft marksFit noteFits fitsAt fitsFrom fits wordWanted operationOf wantedAt wantedOf begun startOf takeFrom takeAt stepOf stepsOver runOf
+-- opens every definition that a case, or an equation of the crate equations, computes with
+unfoldable pub opened : ℕ
+unfolding positions stations afterOther afterDone addressIn blockWords transferIn commandIn qmodeOf addressOf wordsOf directionOf isEnhanced isBlock camacFault decodeOf padAt alignedMark widthOf markAfter stored wordAt byteAt shortAt longAt firstAt secondAt headFault bodyOf fieldOf firstFault fieldsFrom firstBadJump programOf walkFrom walkOf upTo onFrom moved movedWords marksAfter marksOver worstWords worstOf worstOver planOf countsOf prepare admitOf answerIn hasForm replyOf cutRow repliesIn allFormed leaves causeChecks causesOf codeOf flagsOf endedAt waitsFor putLiteral runOn movedRecord movedBytes moveWord counted waiting triesAfter positionAfter goOn byCauses takeReply mostLeft marksFit noteFits fitsAt fitsFrom fits wordWanted operationOf wantedAt wantedOf begun startOf takeFrom takeAt stepOf stepsOver runOf liesIn lastMoved
 opened = 0
 
 pub cases : Cases

@@ -9,6 +9,7 @@
 pub mod camrun;
 pub mod cases;
 pub mod demands;
+pub mod equations;
 pub mod fit;
 pub mod host;
 pub mod list;

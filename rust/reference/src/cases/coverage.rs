@@ -32,6 +32,18 @@ pub use short::{Buffer, ClosedAt, Follower, StopBlock};
 /// A scan's positions from N 1, A 0.
 const MOST_POSITIONS: u64 = 368;
 
+/// The clauses that 23 is for; an ended record is 24's.
+const CLAUSES: [Clause; 8] = [
+    Clause::Instruction,
+    Clause::WordsLeft,
+    Clause::Tries,
+    Clause::Position,
+    Clause::Marks,
+    Clause::Operations,
+    Clause::Status,
+    Clause::Note,
+];
+
 /// A transfer mode, the list sequencer apart from the other enhanced blocks.
 #[derive(Clone, Copy, Debug, PartialEq, Eq, PartialOrd, Ord)]
 pub enum Mode {
@@ -288,16 +300,6 @@ impl Coverage {
     /// Counters for cases of start, step and steps.
     pub fn of_calls() -> Coverage {
         let refusals = || (1..=11).chain(20..=24);
-        let clauses = [
-            Clause::Instruction,
-            Clause::WordsLeft,
-            Clause::Tries,
-            Clause::Position,
-            Clause::Marks,
-            Clause::Operations,
-            Clause::Status,
-            Clause::Note,
-        ];
         let plain = [
             Event::StartWaits,
             Event::StartEnds,
@@ -319,8 +321,35 @@ impl Coverage {
         let events = events.chain(short::of_unfit_marks());
         let events = events.chain(refusals().map(Event::Refusal));
         let events = events.chain(refusals().map(Event::StepsRefused));
-        let events = events.chain(clauses.map(Event::Unfit));
+        let events = events.chain(CLAUSES.map(Event::Unfit));
         Coverage::expecting(events.chain(NARROW.map(|(at, _)| Event::TooWide(at))))
+    }
+
+    /// Counters for equations: those of runs and steps, but for lists too long to compute.
+    pub fn of_equations() -> Coverage {
+        let refusals = (1..=4).chain(6..=11).chain(20..=24).map(Event::Refusal);
+        let plain = [
+            Event::Waiting,
+            Event::RepliesPastEnd,
+            Event::WorstCount,
+            Event::WorstCountShort,
+            Event::ExactBuffers,
+            Event::LongerBuffer,
+            Event::UnreachedField,
+            Event::Jump,
+            Event::Literal,
+            Event::LiteralPad,
+            Event::ShortReply,
+            Event::LongReply,
+        ];
+        let events = of_operations().chain(of_enhanced_words()).chain(plain);
+        let events = events.chain(refusals).chain(short::of_followers());
+        let events = events
+            .chain(short::of_pads())
+            .chain(short::of_lower_marks());
+        let events = events.chain(short::of_lower_pads());
+        let events = events.chain(short::of_unfit_marks());
+        Coverage::expecting(events.chain(CLAUSES.map(Event::Unfit)))
     }
 
     fn expecting(events: impl Iterator<Item = Event>) -> Coverage {
