@@ -18,6 +18,9 @@ struct Changing {
     changes: BTreeSet<String>,
 }
 
+/// The crate of equations that are computed: its pages have no rule.
+const COMPUTED: &str = "equations";
+
 /// What the tables are made of.
 pub struct Tree {
     pages: Vec<Page>,
@@ -136,7 +139,8 @@ impl Tree {
             laws: Vec::new(),
             edits: Vec::new(),
         };
-        let listed = repository::listed(root)?;
+        let mut listed = repository::listed(root)?;
+        listed.retain(|c| c.name != COMPUTED);
         for c in &listed {
             let pages = pages::of_crate(root, &c.name)?;
             let proofs = root.join("crates").join(&c.name).join("proofs");
