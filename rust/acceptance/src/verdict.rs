@@ -169,7 +169,8 @@ fn is_misfit(report: &Report) -> bool {
         "has no field",
         "expected a type, but",
     ];
-    let has_sign = signs.iter().any(|sign| report.message.contains(sign));
+    let text = format!("{}{}", report.message, report.detail);
+    let has_sign = signs.iter().any(|sign| text.contains(sign));
     let has_new_need = report.said().contains("this has type `tie.");
     !report.automatic && (report.law.is_empty() || has_sign || has_new_need)
 }
@@ -229,7 +230,8 @@ mod tests {
         let gone = "/x/proofs/f/Proof.antt:7:14: error: `a`: `tie.Need-a`: module `T` has no `Need-a` that can be named from here\n/x/proofs/f/Proof.antt:9:1: error: `returns`: `search`: no proof\n";
         let more = "/x/proofs/f/Proof.antt:14:26: error: `f-spec`: expected type `lts.Closed ?0`, but this has type `tie.Need-a → lts.Closed ?1`\n";
         let shifted = "/x/proofs/f/Proof.antt:9:25: error: `returns`: record `f.Lts.After-a` has no field `args`\n";
-        for log in [gone, more, shifted] {
+        let wrapped = "/x/proofs/f/Proof.antt:7:14: error: `a`: `tie.Need-a`: module `T` has no `Need-a`\n  that can be named from here\n";
+        for log in [gone, more, shifted, wrapped] {
             assert!(!judged(log).is_fact(), "{log}");
         }
         let other = format!("{gone}/x/proofs/g/Proof.antt:3:1: error: `returns`: `omega`: no\n");
