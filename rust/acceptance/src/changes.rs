@@ -1,7 +1,8 @@
 //! Small changes of a function's body: another operator, another constant, another field.
-//!
-//! Goes by the layout of `rt fmt`: a function begins with a line that has `fn`, its body is
-//! what stands between the next `{` that ends a line and the `}` in the function's column.
+
+use std::ops::Range;
+
+use crate::code;
 
 /// A change: the bytes of a file that go, and what stands there instead.
 #[derive(Clone, Debug, PartialEq, Eq)]
@@ -79,46 +80,15 @@ struct Body<'a> {
     to: usize,
 }
 
-/// A line's function, where it begins one.
-fn function_in(line: &str) -> Option<&str> {
-    let marks = ["pub", "pub(crate)", "extern", "\"C\""];
-    let rest = line.trim_start();
-    let mut words = rest.split(' ').skip_while(|word| marks.contains(word));
-    let name = (words.next() == Some("fn")).then(|| words.next()).flatten();
-    name?.split('(').next()
-}
-
-fn indent(line: &str) -> usize {
-    line.len() - line.trim_start().len()
-}
-
 fn bodies(text: &str) -> Vec<Body<'_>> {
-    let mut found = Vec::new();
-    let mut open: Option<(&str, usize, Option<usize>)> = None;
-    let mut at = 0;
-    for line in text.split_inclusive('\n') {
-        let next = at + line.len();
-        open = match (open, function_in(line)) {
-            (None, Some(name)) if line.ends_with("{\n") => Some((name, indent(line), Some(next))),
-            (None, Some(name)) => Some((name, indent(line), None)),
-            (Some((name, column, None)), _) if line == format!("{}{{\n", " ".repeat(column)) => {
-                Some((name, column, Some(next)))
-            }
-            (Some((function, column, Some(from))), _)
-                if line.trim_end() == format!("{}}}", " ".repeat(column)) =>
-            {
-                found.push(Body {
-                    function,
-                    from,
-                    to: at,
-                });
-                None
-            }
-            (open, _) => open,
-        };
-        at = next;
-    }
-    found
+    let mut starts = vec![0];
+    starts.extend(text.match_indices('\n').map(|(at, _)| at + 1));
+    let body = |(function, lines): (_, Range<usize>)| Body {
+        function,
+        from: starts[lines.start],
+        to: starts[lines.end],
+    };
+    code::bodies(text).into_iter().map(body).collect()
 }
 
 /// The structs of a source file.

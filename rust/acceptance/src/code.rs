@@ -1,5 +1,6 @@
 //! The functions of Rattle sources, and the definitions that their contracts cite.
 
+use std::ops::Range;
 use std::path::Path;
 
 use crate::files;
@@ -46,6 +47,18 @@ fn parts(lines: &[&str], at: usize) -> [usize; 3] {
     let body = if body < end { body } else { at };
     let clauses = lines[at..body].iter().position(|line| is_clause(line));
     [clauses.map_or(body, |length| at + length), body, end]
+}
+
+/// The bodies of a source file's functions: each function's name, and the lines of its body.
+pub fn bodies(text: &str) -> Vec<(&str, Range<usize>)> {
+    let lines: Vec<&str> = text.lines().collect();
+    let named = lines.iter().enumerate();
+    let named = named.filter_map(|(at, line)| Some((at, declared(line)?)));
+    let body = |(at, name)| {
+        let [_, body, end] = parts(&lines, at);
+        (name, body + 1..end - 1)
+    };
+    named.map(body).collect()
 }
 
 /// The functions of a source file, by its path below crates/ without its ending.
@@ -123,5 +136,6 @@ pub extern \"C\" fn two() {
         assert_eq!(shown, wanted);
         assert_eq!(found[0].lines, 3..12);
         assert_eq!(found[1].lines, 14..17);
+        assert_eq!(bodies(SOURCE), [("one", 8..11), ("two", 15..16)]);
     }
 }

@@ -42,6 +42,17 @@ pub fn with_ending(folder: &Path, ending: &str) -> Result<Vec<PathBuf>, String> 
     Ok(found)
 }
 
+/// The same of the folders below it, too.
+pub fn all_with_ending(folder: &Path, ending: &str) -> Result<Vec<PathBuf>, String> {
+    let mut found = with_ending(folder, ending)?;
+    if folder.is_dir() {
+        for path in entries(folder)?.iter().filter(|path| path.is_dir()) {
+            found.extend(all_with_ending(path, ending)?);
+        }
+    }
+    Ok(found)
+}
+
 pub fn copy_folder(from: &Path, to: &Path) -> Result<(), String> {
     named(to, fs::create_dir_all(to))?;
     for path in entries(from)? {

@@ -15,14 +15,14 @@ pub fn meaning(need: &str) -> Option<&'static str> {
         Some("what it returns or leaves is not what its contract says")
     } else if need == "same-length" {
         Some("a buffer's length is not kept")
+    } else if begins(&["add-", "sub-", "mul-", "cast-"]) {
+        Some("a number may not fit its type")
     } else if ends(&["-requires"]) {
         Some("what a call requires does not hold")
     } else if ends(&["-holds", "-again"]) {
         Some("the loop's invariant does not hold")
     } else if ends(&["-less"]) {
         Some("the loop may not end")
-    } else if begins(&["add-", "sub-", "mul-", "cast-"]) {
-        Some("a number may not fit its type")
     } else if begins(&["slice-", "shared-", "array-", "element-", "index-", "part-"]) {
         Some("an index may lie outside")
     } else {
@@ -42,6 +42,7 @@ mod tests {
         assert_eq!(meaning("byte-at-requires-2"), meaning("low-requires"));
         assert_ne!(meaning("loop-again"), meaning("loop-less"));
         assert_eq!(meaning("slice-write-buffer-4"), meaning("array-read-t7"));
+        assert_eq!(meaning("add-less"), meaning("add-result"));
         assert_eq!(meaning("runs-on"), None);
     }
 }

@@ -1,26 +1,15 @@
 //! Sizes of the repository: lines, functions, edits and tests.
 
-use std::path::{Path, PathBuf};
+use std::path::Path;
 
 use crate::code;
 use crate::files;
 use crate::repository;
 
-/// The files below a folder with this ending, in folders below it too; none without a folder.
-fn all_below(folder: &Path, ending: &str) -> Result<Vec<PathBuf>, String> {
-    let mut found = files::with_ending(folder, ending)?;
-    if folder.is_dir() {
-        for path in files::entries(folder)?.iter().filter(|path| path.is_dir()) {
-            found.extend(all_below(path, ending)?);
-        }
-    }
-    Ok(found)
-}
-
 /// How many lines below a folder are meant.
 fn count(folder: &Path, ending: &str, is_meant: fn(&str) -> bool) -> Result<usize, String> {
     let mut sum = 0;
-    for path in all_below(folder, ending)? {
+    for path in files::all_with_ending(folder, ending)? {
         let text = files::read(&path)?;
         sum += text.lines().filter(|line| is_meant(line)).count();
     }

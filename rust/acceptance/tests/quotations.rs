@@ -2,7 +2,7 @@
 //! it is marked as, and READING.md quotes the customer's three demands. A paper that is not
 //! at hand, beside the repository in ../shared, is said to be left out.
 
-use std::path::{Path, PathBuf};
+use std::path::Path;
 use std::process::ExitCode;
 
 use acceptance::quotations::{self, Quotation, Source, MOST_WORDS};
@@ -31,15 +31,6 @@ const PARTS: [(&str, &str, &str); 3] = [
     ("src", "rt", "//"),
 ];
 
-fn files_below(folder: &Path, ending: &str) -> Vec<PathBuf> {
-    let mut found = files::with_ending(folder, ending).unwrap_or_default();
-    let folders = files::entries(folder).unwrap_or_default();
-    for path in folders.iter().filter(|path| path.is_dir()) {
-        found.extend(files_below(path, ending));
-    }
-    found
-}
-
 /// The quotations of texts, each with its line, in a file.
 fn all_in(file: &str, texts: &[(usize, String)], usual: Source) -> Result<Vec<Found>, String> {
     let mut found = Vec::new();
@@ -67,7 +58,7 @@ fn in_crates(root: &Path) -> Result<Vec<Found>, String> {
     for c in repository::listed(root)? {
         for (part, ending, sign) in PARTS {
             let folder = root.join("crates").join(&c.name).join(part);
-            for path in files_below(&folder, ending) {
+            for path in files::all_with_ending(&folder, ending)? {
                 found.extend(in_file(root, &path, sign)?);
             }
         }
@@ -78,7 +69,7 @@ fn in_crates(root: &Path) -> Result<Vec<Found>, String> {
 /// The separate build is written from the papers, and quotes them.
 fn in_separate_build(root: &Path) -> Result<Vec<Found>, String> {
     let mut found = Vec::new();
-    for path in files_below(&root.join("rust/reference"), "rs") {
+    for path in files::all_with_ending(&root.join("rust/reference"), "rs")? {
         found.extend(in_file(root, &path, "//")?);
     }
     Ok(found)
