@@ -8,8 +8,9 @@ use std::process::ExitCode;
 use acceptance::quotations::{self, Quotation, Source, MOST_WORDS};
 use acceptance::{files, repository};
 
-const DOCUMENTS: [&str; 7] = [
+const DOCUMENTS: [&str; 8] = [
     "README.md",
+    "docs/MANUAL.md",
     "docs/READING.md",
     "docs/WHY.md",
     "docs/ACCEPTANCE.md",

@@ -3,7 +3,8 @@
 
 use acceptance::{files, printed, reading, repository};
 
-const DOCUMENTS: [&str; 6] = [
+const DOCUMENTS: [&str; 7] = [
+    "docs/MANUAL.md",
     "docs/READING.md",
     "docs/WHY.md",
     "docs/ACCEPTANCE.md",
