@@ -16,10 +16,25 @@ use reference::names::code_name;
 use reference::reply::{self, Reply, Response};
 use reference::words::{decode, Camac, Transfer};
 use reference::{admit, last_moved, run_row, scalers, start, status, step, steps};
-use reference::{Answer, Operation, Record, Refusal};
+use reference::{Operation, Record, Refusal, StepsAnswer};
 
 /// The fewest examples that the manual may have.
-const FEWEST: usize = 60;
+const FEWEST: usize = 110;
+
+/// What an example may give.
+const KEYS: [&str; 11] = [
+    "list",
+    "incoming",
+    "outgoing",
+    "from",
+    "replies",
+    "words",
+    "reply",
+    "to binary",
+    "to decimal",
+    "demands",
+    "queue",
+];
 
 /// The incoming bytes where an example names no other number.
 const INCOMING: usize = 65_536;
@@ -65,7 +80,8 @@ impl Example {
         }
         match key.as_str() {
             "gives" => self.gives.push(value),
-            _ => self.given.push((key, value)),
+            known if KEYS.contains(&known) => self.given.push((key, value)),
+            _ => panic!("line {number}: no example has {key}"),
         }
     }
 
@@ -143,7 +159,7 @@ fn refused(Refusal { number, place }: Refusal) -> String {
 /// What a line `gives` with this first word has to say.
 fn outcome(example: &Example, word: &str) -> String {
     if example.given("list").is_some() {
-        Made::by(example).outcome(example, word)
+        Run::of(example).outcome(word)
     } else if let Some(words) = example.given("words") {
         decoded(&words)
     } else if let Some(reply) = example.given("reply") {
@@ -173,12 +189,19 @@ fn faults(example: &Example) -> Vec<String> {
 
 // Runs --------------------------------------------------------------------------------------
 
-/// What a run came to.
+/// What a run is given.
+struct Run {
+    list: Vec<u8>,
+    incoming: usize,
+    outgoing: Vec<u8>,
+    from: Option<Record>,
+    row: Vec<u8>,
+}
+
+/// What a run comes to.
 struct Made {
-    refusal: Option<Refusal>,
-    taken: u64,
-    record: Record,
-    wanted: Operation,
+    at_once: StepsAnswer,
+    /// Those that replies were taken for.
     operations: Vec<Operation>,
     incoming: Vec<u8>,
 }
@@ -216,102 +239,107 @@ fn shown_operation(operation: &Operation) -> String {
     format!("{crate_number} {n} {a} {f} {data:X}h {enhanced}")
 }
 
-impl Made {
-    /// By single steps, which have to come to the same as one call over the whole row.
-    fn by(example: &Example) -> Made {
-        let list = example.bytes("list");
-        let outgoing = example.bytes("outgoing");
-        let row = example.bytes("replies");
-        let length = example.given("incoming");
-        let length = length.map_or(INCOMING, |length| length.parse().expect("a length"));
-        let (mut incoming, mut by_steps) = (vec![0; length], vec![0; length]);
-        let (refusal, taken, record, first) = match example.given("from") {
-            Some(from) => {
-                let from = record_of(&from);
-                let answer = steps(&list, &from, &mut incoming, &outgoing, &row);
-                let none = steps(&list, &from, &mut by_steps, &outgoing, &[]);
-                let first = Answer {
-                    refusal: none.refusal,
-                    record: none.record,
-                    wanted: none.wanted,
-                };
-                (answer.refusal, answer.taken, answer.record, first)
+impl Run {
+    fn of(example: &Example) -> Run {
+        let length = |text: String| text.parse().expect("a length");
+        Run {
+            list: example.bytes("list"),
+            incoming: example.given("incoming").map_or(INCOMING, length),
+            outgoing: example.bytes("outgoing"),
+            from: example.given("from").map(|text| record_of(&text)),
+            row: example.bytes("replies"),
+        }
+    }
+
+    /// A row taken by one call, from the record or from the list's start; the whole run does
+    /// not say which operation is wanted.
+    fn at_once(&self, incoming: &mut [u8], row: &[u8]) -> StepsAnswer {
+        if let Some(record) = &self.from {
+            return steps(&self.list, record, incoming, &self.outgoing, row);
+        }
+        let answer = run_row(&self.list, incoming, &self.outgoing, row);
+        StepsAnswer {
+            refusal: answer.refusal,
+            taken: answer.taken,
+            record: answer.record,
+            wanted: Operation::default(),
+        }
+    }
+
+    /// The record and the operation wanted before the first reply.
+    fn first(&self, incoming: &mut [u8]) -> (Record, Operation) {
+        match self.from {
+            Some(_) => {
+                let answer = self.at_once(incoming, &[]);
+                (answer.record, answer.wanted)
             }
             None => {
-                let answer = run_row(&list, &mut incoming, &outgoing, &row);
-                let first = match answer.refusal {
-                    Some(_) => start(&list, &mut [], &[]),
-                    None => start(&list, &mut by_steps, &outgoing),
-                };
-                (answer.refusal, answer.taken, answer.record, first)
+                let answer = start(&self.list, incoming, &self.outgoing);
+                (answer.record, answer.wanted)
             }
-        };
+        }
+    }
+
+    /// Made by one call over the row, and by single steps, which have to come to the same.
+    fn made(&self) -> Made {
+        let mut incoming = vec![0; self.incoming];
         let mut made = Made {
-            refusal,
-            taken,
-            record,
-            wanted: first.wanted,
+            at_once: self.at_once(&mut incoming, &self.row),
             operations: Vec::new(),
             incoming,
         };
-        if refusal.is_none() {
-            let last = made.step(first, &list, &mut by_steps, &outgoing, &row);
-            assert_eq!(last, record, "line {}", example.line);
-            assert!(by_steps == made.incoming, "line {}", example.line);
+        if made.at_once.refusal.is_none() {
+            let mut incoming = vec![0; self.incoming];
+            let (mut record, mut wanted) = self.first(&mut incoming);
+            for reply in self.row.chunks(8).take(made.at_once.taken as usize) {
+                made.operations.push(wanted);
+                let answer = step(&self.list, &record, &mut incoming, &self.outgoing, reply);
+                assert_eq!(answer.refusal, None);
+                (record, wanted) = (answer.record, answer.wanted);
+            }
+            assert_eq!(record, made.at_once.record);
+            assert!(incoming == made.incoming, "the incoming bytes differ");
+            made.at_once.wanted = wanted;
         }
         made
     }
 
-    /// Steps from an answer on, keeping the operations made and the one wanted.
-    fn step(
-        &mut self,
-        first: Answer,
-        list: &[u8],
-        incoming: &mut [u8],
-        outgoing: &[u8],
-        row: &[u8],
-    ) -> Record {
-        let mut answer = first;
-        for reply in row.chunks(8).take(self.taken as usize) {
-            self.operations.push(answer.wanted);
-            answer = step(list, &answer.record, incoming, outgoing, reply);
-            assert_eq!(answer.refusal, None);
+    fn admitted(&self) -> String {
+        let outgoing = self.outgoing.len() as u64;
+        match admit(&self.list, self.incoming as u64, outgoing) {
+            Ok(counts) => format!("admitted {} {} {}", counts.w, counts.b, counts.o),
+            Err(refusal) => refused(refusal),
         }
-        self.wanted = answer.wanted;
-        answer.record
     }
 
-    fn outcome(&self, example: &Example, word: &str) -> String {
+    fn outcome(&self, word: &str) -> String {
+        let made = self.made();
+        let StepsAnswer {
+            refusal,
+            taken,
+            record,
+            wanted,
+        } = made.at_once;
         match word {
-            "admitted" => self.admitted(example),
-            "refused" => self.refusal.map_or("not refused".to_string(), refused),
-            "taken" => format!("taken {}", self.taken),
+            "admitted" => self.admitted(),
+            "refused" => refusal.map_or("not refused".to_string(), refused),
+            "taken" => format!("taken {taken}"),
             "operations" => {
-                let operations = self.operations.iter().map(shown_operation);
+                let operations = made.operations.iter().map(shown_operation);
                 format!("operations {}", joined(operations))
             }
-            "wanted" => format!("wanted {}", shown_operation(&self.wanted)),
-            "end" | "waiting" => ending(&self.record),
-            "record" => format!("record {}", shown_record(&self.record)),
+            "wanted" => format!("wanted {}", shown_operation(&wanted)),
+            "end" | "waiting" => ending(&record),
+            "record" => format!("record {}", shown_record(&record)),
             "stored" => {
-                let mark = self.record.incoming_mark as usize;
-                format!("stored {}", shown(&self.incoming[..mark]))
+                let mark = record.incoming_mark as usize;
+                format!("stored {}", shown(&made.incoming[..mark]))
             }
             "last" => {
-                let outgoing = example.bytes("outgoing");
-                let (buffer, part) = last_moved(&self.incoming, &outgoing, &self.record.note);
+                let (buffer, part) = last_moved(&made.incoming, &self.outgoing, &record.note);
                 format!("last {buffer} {}", shown(part))
             }
             _ => format!("nothing named {word}"),
-        }
-    }
-
-    fn admitted(&self, example: &Example) -> String {
-        let outgoing = example.bytes("outgoing").len() as u64;
-        let incoming = self.incoming.len() as u64;
-        match admit(&example.bytes("list"), incoming, outgoing) {
-            Ok(counts) => format!("admitted {} {} {}", counts.w, counts.b, counts.o),
-            Err(refusal) => refused(refusal),
         }
     }
 }
@@ -488,6 +516,18 @@ fn examples_come_out() {
     assert!(empty.is_none_or(|e| panic!("line {}: it gives nothing", e.line)));
     let faults: Vec<String> = examples.iter().flat_map(faults).collect();
     assert!(faults.is_empty(), "\n{}", faults.join("\n"));
+}
+
+/// The table of a list's bytes has those of the first example, each field at its place.
+#[test]
+fn the_list_by_bytes_is_the_first_example() {
+    let manual = manual();
+    let mut list = Vec::new();
+    for row in table(&manual, "| Place | Bytes |") {
+        assert_eq!(row[0], list.len().to_string());
+        list.extend(bytes(&row[1]));
+    }
+    assert_eq!(list, examples(&manual)[0].bytes("list"));
 }
 
 /// The refusals stand in the header's order, which is that in which they are judged, and each
