@@ -1,0 +1,16 @@
+/* Why a run ended, in words. */
+#ifndef WORDS_H
+#define WORDS_H
+
+#include <stdint.h>
+
+/* What a code of the status means. */
+const char *code_words(unsigned code);
+
+/* Prints the instruction, the operations, the code and the status bits of a record that has ended, on two lines. */
+void print_ending(const uint64_t *record);
+
+/* The same of the code alone, without a line's end. */
+void print_code(uint64_t status);
+
+#endif
