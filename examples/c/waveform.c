@@ -74,13 +74,13 @@ static void require(const char *call, const uint64_t *answer)
 static void put_event(camlist_bytes *list, uint32_t samples)
 {
     camlist_put_head(list, TRY_LIMIT);
-    camlist_put_inline(list, CRATE, CRATE_DIGITIZER, 1, 16, CAMLIST_STOP | CAMLIST_16_BIT, samples);           /* 0: how many samples */
-    camlist_put_single(list, CRATE, CRATE_DIGITIZER, 0, 26, CAMLIST_STOP);                                     /* 1: enable its LAM */
-    camlist_put_single(list, CRATE, CRATE_SCALER, 0, 26, CAMLIST_STOP);                                        /* 2: and the scaler's */
-    camlist_put_single(list, CRATE, CRATE_DIGITIZER, 0, 25, CAMLIST_STOP);                                     /* 3: trigger */
-    camlist_put_block(list, CRATE, CRATE_DIGITIZER, 0, 2, CAMLIST_STOP | CAMLIST_16_BIT, CRATE_SAMPLES);       /* 4: the samples */
-    camlist_put_literal(list, END_OF_EVENT);                                                                   /* 5 */
-    camlist_put_halt(list);                                                                                    /* 6 */
+    camlist_put_inline(list, CRATE, CRATE_DIGITIZER, 1, 16, CAMLIST_STOP | CAMLIST_16_BIT, samples);     /* 0: how many samples */
+    camlist_put_single(list, CRATE, CRATE_DIGITIZER, 0, 26, CAMLIST_STOP);                               /* 1: enable its LAM */
+    camlist_put_single(list, CRATE, CRATE_SCALER, 0, 26, CAMLIST_STOP);                                  /* 2: and the scaler's */
+    camlist_put_single(list, CRATE, CRATE_DIGITIZER, 0, 25, CAMLIST_STOP);                               /* 3: trigger */
+    camlist_put_block(list, CRATE, CRATE_DIGITIZER, 0, 2, CAMLIST_STOP | CAMLIST_16_BIT, CRATE_SAMPLES); /* 4: the samples */
+    camlist_put_literal(list, END_OF_EVENT);                                                             /* 5 */
+    camlist_put_halt(list);                                                                              /* 6 */
 }
 
 /* Tests and clears the LAM of a station that sent a demand. */
@@ -146,7 +146,10 @@ static void make_operation(struct host *host, struct run *run, const uint64_t *w
 
 static void start(struct run *run, const camlist_bytes *list, uint64_t answer[CAMLIST_CALL_NUMBERS])
 {
-    if (list->failed) abort();
+    if (list->failed) {
+        fprintf(stderr, "a list has no room, or a part of it is too wide\n");
+        exit(1);
+    }
     memset(run, 0, sizeof *run);
     camlist_start(list->bytes, list->length, run->incoming, sizeof run->incoming, outgoing, sizeof outgoing, run->record, answer);
     require("camlist_start", answer);

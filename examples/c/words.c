@@ -5,7 +5,8 @@
 
 #include "camlist.h"
 
-const char *code_words(unsigned code)
+/* What a code of the status means. */
+static const char *code_words(unsigned code)
 {
     switch (code) {
     case CAMLIST_CODE_NO_ERROR: return "the list came to its halt";

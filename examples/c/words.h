@@ -4,13 +4,10 @@
 
 #include <stdint.h>
 
-/* What a code of the status means. */
-const char *code_words(unsigned code);
-
 /* Prints the instruction, the operations, the code and the status bits of a record that has ended, on two lines. */
 void print_ending(const uint64_t *record);
 
-/* The same of the code alone, without a line's end. */
+/* Prints the code of a status, its name and what it means, without a line's end. */
 void print_code(uint64_t status);
 
 #endif

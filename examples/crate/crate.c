@@ -26,7 +26,7 @@ struct answer {
 };
 
 /* A command in one of the sequencer's lists. */
-struct command {
+struct listed {
     uint32_t n;
     uint32_t a;
     uint32_t f;
@@ -84,7 +84,7 @@ static struct answer command_lam(struct simulated_crate *crate, uint32_t n, uint
 
 /* The modules ------------------------------------------------------------------------------------------------------------------------------ */
 
-/* The next sample: a base line with a little noise, and two pulses, each the difference of two exponential decays. */
+/* The next sample: a base line, two pulses, each the difference of two exponential decays, and noise of up to 512 counts. */
 static uint32_t next_sample(struct simulated_crate *crate)
 {
     uint32_t sample = crate->samples - crate->samples_left, height = 0;
@@ -97,7 +97,7 @@ static uint32_t next_sample(struct simulated_crate *crate)
     crate->rising -= crate->rising / 32;
     crate->noise = crate->noise * 1664525u + 1013904223u;
     crate->samples_left--;
-    return BASELINE + (crate->falling - crate->rising) / 256 + (crate->noise >> 25) + (crate->noise >> 18 & 127) - 128;
+    return BASELINE + (crate->falling - crate->rising) / 256 + (crate->noise >> 23) + (crate->noise >> 14 & 511) - 512;
 }
 
 static struct answer trigger(struct simulated_crate *crate)
@@ -230,26 +230,27 @@ static struct answer module(struct simulated_crate *crate, uint32_t n, uint32_t 
 static struct answer sequencer(struct simulated_crate *crate, uint32_t list, uint32_t data)
 {
     static const uint32_t lengths[4] = {4, 3, 2, 2};
-    static const struct command commands[4][4] = {
+    static const struct listed commands[4][4] = {
         {{CRATE_SCALER, 0, 0}, {CRATE_SCALER, 1, 0}, {CRATE_SCALER, 2, 0}, {CRATE_SCALER, 3, 0}},
         {{CRATE_SWITCHES, 0, 0}, {CRATE_SWITCHES, 1, 0}, {CRATE_SWITCHES, 2, 0}, {0, 0, 0}},
         {{CRATE_DECIMAL, 0, 16}, {CRATE_DECIMAL, 1, 16}, {0, 0, 0}, {0, 0, 0}},
         {{CRATE_DIGITIZER, 1, 16}, {CRATE_ADC, 1, 16}, {0, 0, 0}, {0, 0, 0}},
     };
-    const struct command *command;
+    const struct listed *listed;
 
     if (crate->list != list) {
         crate->list = list;
         crate->next = 0;
     }
     if (crate->next == lengths[list]) return not_done;
-    command = &commands[list][crate->next++];
-    return module(crate, command->n, command->a, command->f, data);
+    listed = &commands[list][crate->next++];
+    return module(crate, listed->n, listed->a, listed->f, data);
 }
 
 /* The highway ------------------------------------------------------------------------------------------------------------------------------ */
 
-static struct answer command(struct simulated_crate *crate, const struct crate_operation *wanted)
+/* A command that has reached the crate. */
+static struct answer make_command(struct simulated_crate *crate, const struct crate_operation *wanted)
 {
     if (wanted->n == CRATE_SEQUENCER && wanted->f == 12 && wanted->a < 4 && wanted->enhanced) return sequencer(crate, wanted->a, wanted->data);
     crate->list = NO_LIST;
@@ -284,7 +285,7 @@ static uint32_t fault_due(struct simulated_crate *crate)
 /* Makes the operation and puts the crate's answer. */
 static void put_answer(struct simulated_crate *crate, const struct crate_operation *wanted, uint32_t fault, camlist_bytes *reply)
 {
-    struct answer answer = command(crate, wanted);
+    struct answer answer = make_command(crate, wanted);
     unsigned flags = (answer.q ? CAMLIST_Q : 0) | (answer.x ? CAMLIST_X : 0);
 
     if (fault == CRATE_TPE) flags |= CAMLIST_TPE;

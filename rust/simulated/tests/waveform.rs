@@ -49,3 +49,15 @@ fn picture_that_cannot_be_written() {
     let output = Command::new(PROGRAM).arg(path).output().expect("waveform");
     assert!(!output.status.success() && !output.stderr.is_empty());
 }
+
+/// Both build scripts look for the same symbol in the library.
+#[test]
+fn symbol_of_the_build_scripts() {
+    let symbol = |package: &str| {
+        let path = Path::new(env!("CARGO_MANIFEST_DIR")).join("..").join(package);
+        let script = fs::read_to_string(path.join("build.rs")).expect("a build script");
+        let line = script.lines().find(|line| line.starts_with("const SYMBOL"));
+        line.expect("a symbol").to_string()
+    };
+    assert_eq!(symbol("simulated"), symbol("camlist"));
+}

@@ -7,6 +7,9 @@ use simulated::Crate;
 /// The most replies that are collected before the engine takes them.
 pub const ROW: u64 = 64;
 
+/// Bytes of the incoming buffer: the longest event's.
+pub const INCOMING: usize = 2 * simulated::SAMPLES as usize + 4;
+
 /// For the two decimal scalers, in digits.
 pub const OUTGOING: [u8; 8] = [0x56, 0x34, 0x12, 0, 0x90, 0x08, 0, 0];
 
@@ -22,11 +25,6 @@ pub struct Ended {
     pub incoming: Vec<u8>,
 }
 
-/// A buffer for the longest event.
-fn buffer() -> Vec<u8> {
-    vec![0; 2 * simulated::SAMPLES as usize + 4]
-}
-
 impl Host {
     pub fn power_up() -> Host {
         Host {
@@ -37,7 +35,7 @@ impl Host {
 
     /// Runs a list operation by operation. The first few are printed.
     pub fn run_by_step(&mut self, list: &[u8], printed: u64) -> Result<Ended, Refusal> {
-        let mut incoming = buffer();
+        let mut incoming = vec![0; INCOMING];
         let mut run = Run::start(list, &mut incoming, &OUTGOING)?;
         let mut made = 0;
         while let Some(wanted) = run.wanted() {
@@ -61,7 +59,7 @@ impl Host {
     /// another operation or none, and a word read too early would be lost. So the row ends there.
     /// The other instructions here want one operation each.
     pub fn run_by_rows(&mut self, list: &[u8], block: u64) -> Result<(Ended, usize), Refusal> {
-        let mut incoming = buffer();
+        let mut incoming = vec![0; INCOMING];
         let mut run = Run::start(list, &mut incoming, &OUTGOING)?;
         let (mut made, mut rows) = (0, 0);
         while let Some(wanted) = run.wanted() {

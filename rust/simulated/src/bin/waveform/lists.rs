@@ -11,12 +11,12 @@ pub const SET_UP: u32 = 4;
 pub const SAMPLES_BLOCK: u64 = 4;
 const END_OF_EVENT: u32 = 0xE0E0_E0E0;
 
-/// The words that the other modules give: of the sequencer's list, which has four; of all
-/// switches, 3 at station 14, 16 at 17 and 2 at 18; of the enhanced block, which has fewer
-/// samples.
+/// Words by the list sequencer, whose list has four.
 pub const LISTED_WORDS: u32 = 5;
 pub const ADC_WORDS: u32 = 3;
+/// All switches: 3 at station 14, 16 at 17 and 2 at 18.
 pub const SCAN_WORDS: u32 = 21;
+/// Words of the enhanced block, and the samples that there are.
 const BLOCK_WORDS: u32 = 16;
 pub const BLOCK_SAMPLES: u32 = 12;
 

@@ -1,6 +1,6 @@
 //! What the program shows, part by part.
 
-use crate::host::{Ended, Host, OUTGOING, ROW};
+use crate::host::{Ended, Host, INCOMING, OUTGOING, ROW};
 use crate::lists::{self, SAMPLES_BLOCK, SET_UP};
 use crate::{picture, words};
 use camlist::{admit, scalers, Code, List, Refusal, Word};
@@ -24,7 +24,7 @@ fn event(host: &mut Host, ended: &Ended) -> Result<(), Refusal> {
 /// The digitizer's waveform as text; what the run came to, and the picture.
 pub fn waveform(list: &List) -> Result<(Ended, String), Refusal> {
     println!("The digitizer, operation by operation");
-    let counts = admit(list, 4_100, OUTGOING.len() as u64)?;
+    let counts = admit(list, INCOMING as u64, OUTGOING.len() as u64)?;
     println!(
         "  at most {} operations, {} bytes in and {} out",
         counts.operations, counts.incoming, counts.outgoing
