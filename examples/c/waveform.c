@@ -18,7 +18,7 @@
 
 #define CRATE 3
 #define TRY_LIMIT 4
-#define ROW 64 /* the most replies that are collected before the engine takes them */
+#define ROW 100 /* the most replies that are collected before the engine takes them */
 #define SET_UP 4
 #define SAMPLES_BLOCK 4 /* the instruction that reads the samples */
 #define END_OF_EVENT 0xE0E0E0E0u
@@ -45,7 +45,7 @@ struct host {
 
 /* A run: what a host keeps between two calls. */
 struct run {
-    uint8_t incoming[2 * CRATE_SAMPLES + 4];
+    uint8_t incoming[2 * CRATE_SAMPLES + 8];
     uint64_t record[CAMLIST_RECORD_NUMBERS];
     uint64_t made; /* operations made on the crate */
 };
@@ -70,7 +70,7 @@ static void require(const char *call, const uint64_t *answer)
 
 /* Lists ------------------------------------------------------------------------------------------------------------------------------------ */
 
-/* A digitizer that is set to so many samples, triggered, and read until it has no more or 2,048 have come. */
+/* A digitizer that is set to so many samples, triggered, and read until it has no more or 2,048 have come; then a scaler. */
 static void put_event(camlist_bytes *list, uint32_t samples)
 {
     camlist_put_head(list, TRY_LIMIT);
@@ -79,8 +79,9 @@ static void put_event(camlist_bytes *list, uint32_t samples)
     camlist_put_single(list, CRATE, CRATE_SCALER, 0, 26, CAMLIST_STOP);                                  /* 2: and the scaler's */
     camlist_put_single(list, CRATE, CRATE_DIGITIZER, 0, 25, CAMLIST_STOP);                               /* 3: trigger */
     camlist_put_block(list, CRATE, CRATE_DIGITIZER, 0, 2, CAMLIST_STOP | CAMLIST_16_BIT, CRATE_SAMPLES); /* 4: the samples */
-    camlist_put_literal(list, END_OF_EVENT);                                                             /* 5 */
-    camlist_put_halt(list);                                                                              /* 6 */
+    camlist_put_single(list, CRATE, CRATE_SCALER, 0, 0, CAMLIST_STOP);                                   /* 5: operations so far */
+    camlist_put_literal(list, END_OF_EVENT);                                                             /* 6 */
+    camlist_put_halt(list);                                                                              /* 7 */
 }
 
 /* Tests and clears the LAM of a station that sent a demand. */
@@ -236,19 +237,26 @@ static void serve_demands(struct host *host)
 
 /* What the program shows ------------------------------------------------------------------------------------------------------------------- */
 
-/* The samples of an event: all words stored but its literal, if it came to that. */
+static int is_whole(const struct run *run)
+{
+    return camlist_code(run->record[CAMLIST_RECORD_STATUS]) == CAMLIST_CODE_NO_ERROR;
+}
+
+/* The samples of an event: all bytes stored but those of the scaler and the literal behind them, if it came to these. Here the samples are an even
+   number; an odd one would have a pad behind it. */
 static size_t samples_stored(const struct run *run)
 {
     size_t mark = (size_t)run->record[CAMLIST_RECORD_INCOMING_MARK];
-    int is_whole = camlist_code(run->record[CAMLIST_RECORD_STATUS]) == CAMLIST_CODE_NO_ERROR;
 
-    return (is_whole ? mark - 4 : mark) / 2;
+    return (is_whole(run) ? mark - 8 : mark) / 2;
 }
 
-static void show_event(struct host *host, struct run *run)
+static void show_event(struct host *host, const struct run *run)
 {
     print_ending(run->record);
-    printf("  %zu samples stored\n", samples_stored(run));
+    printf("  %zu samples stored", samples_stored(run));
+    if (is_whole(run)) printf(", scaler %" PRIu32, camlist_word_data(camlist_longword(run->incoming + 2 * samples_stored(run))));
+    printf("\n");
     serve_demands(host);
 }
 
@@ -278,7 +286,7 @@ static void show_rows(struct host *host, struct run *run, const camlist_bytes *e
     power_up(host);
     rows = run_by_rows(host, run, event, SAMPLES_BLOCK);
     is_same = memcmp(run->incoming, before->incoming, sizeof run->incoming) == 0 && memcmp(run->record, before->record, sizeof run->record) == 0;
-    printf("  %u rows; the same bytes and the same record: %s\n", rows, is_same ? "yes" : "no");
+    printf("  %" PRIu64 " operations in %u rows; the same bytes and the same record: %s\n", run->made, rows, is_same ? "yes" : "no");
     show_event(host, run);
 }
 
@@ -286,11 +294,13 @@ static void show_fewer(struct host *host, struct run *run)
 {
     uint8_t room[128];
     camlist_bytes list = {room, sizeof room, 0, 0};
+    unsigned rows;
 
     printf("Fewer samples than asked\n");
     power_up(host);
     put_event(&list, 700);
-    printf("  %u rows\n", run_by_rows(host, run, &list, SAMPLES_BLOCK));
+    rows = run_by_rows(host, run, &list, SAMPLES_BLOCK);
+    printf("  %" PRIu64 " operations in %u rows\n", run->made, rows);
     show_event(host, run);
 }
 
@@ -426,7 +436,8 @@ static void show_endings(struct host *host, struct run *run)
         camlist_put_halt(&list);
         crate_ask_fault(&host->crate, endings[k].fault, 7);
         run_by_step(host, run, &list, 0);
-        printf("  %-19s %2" PRIu64 " bytes, ", endings[k].title, run->record[CAMLIST_RECORD_INCOMING_MARK]);
+        printf("  %-19s %2" PRIu64 " bytes, status %08" PRIX64 ", ", endings[k].title, run->record[CAMLIST_RECORD_INCOMING_MARK],
+               run->record[CAMLIST_RECORD_STATUS]);
         print_code(run->record[CAMLIST_RECORD_STATUS]);
         printf("\n");
     }

@@ -54,7 +54,9 @@ fn picture_that_cannot_be_written() {
 #[test]
 fn symbol_of_the_build_scripts() {
     let symbol = |package: &str| {
-        let path = Path::new(env!("CARGO_MANIFEST_DIR")).join("..").join(package);
+        let path = Path::new(env!("CARGO_MANIFEST_DIR"))
+            .join("..")
+            .join(package);
         let script = fs::read_to_string(path.join("build.rs")).expect("a build script");
         let line = script.lines().find(|line| line.starts_with("const SYMBOL"));
         line.expect("a symbol").to_string()

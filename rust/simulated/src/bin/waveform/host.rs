@@ -5,10 +5,10 @@ use camlist::{row, Demand, Demands, Operation, Record, Refusal, Reply, Run};
 use simulated::Crate;
 
 /// The most replies that are collected before the engine takes them.
-pub const ROW: u64 = 64;
+pub const ROW: u64 = 100;
 
 /// Bytes of the incoming buffer: the longest event's.
-pub const INCOMING: usize = 2 * simulated::SAMPLES as usize + 4;
+pub const INCOMING: usize = 2 * simulated::SAMPLES as usize + 8;
 
 /// For the two decimal scalers, in digits.
 pub const OUTGOING: [u8; 8] = [0x56, 0x34, 0x12, 0, 0x90, 0x08, 0, 0];
@@ -23,6 +23,8 @@ pub struct Host {
 pub struct Ended {
     pub record: Record,
     pub incoming: Vec<u8>,
+    /// Operations made on the crate.
+    pub made: u64,
 }
 
 impl Host {
@@ -48,7 +50,11 @@ impl Host {
             run.step(reply)?;
         }
         let record = run.record();
-        Ok(Ended { record, incoming })
+        Ok(Ended {
+            record,
+            incoming,
+            made,
+        })
     }
 
     /// Runs a list of which one instruction, `block`, is a block of reads in stop, and yields how
@@ -71,7 +77,12 @@ impl Host {
             rows += 1;
         }
         let record = run.record();
-        Ok((Ended { record, incoming }, rows))
+        let ended = Ended {
+            record,
+            incoming,
+            made,
+        };
+        Ok((ended, rows))
     }
 
     /// Makes an operation again and again, and collects the replies. The first that is not a

@@ -21,7 +21,7 @@ const BLOCK_WORDS: u32 = 16;
 pub const BLOCK_SAMPLES: u32 = 12;
 
 /// A digitizer that is set to so many samples, triggered, and read until it has no more or
-/// 2,048 have come. Its LAM and the scaler's are enabled.
+/// 2,048 have come; then a scaler, which counts the operations so far. Their LAMs are enabled.
 pub fn event(samples: u32) -> List {
     let at = |station, subaddress, function| Camac::at(CRATE, station, subaddress, function);
     List::new(TRY_LIMIT)
@@ -30,6 +30,7 @@ pub fn event(samples: u32) -> List {
         .single(at(SCALER, 0, 26))
         .single(at(DIGITIZER, 0, 25))
         .block(at(DIGITIZER, 0, 2).stop().bits16(), SAMPLES)
+        .single(at(SCALER, 0, 0))
         .literal(END_OF_EVENT)
         .halt()
 }

@@ -6,18 +6,30 @@ use crate::{picture, words};
 use camlist::{admit, scalers, Code, List, Refusal, Word};
 use simulated::{Fault, CHANNELS, DECIMALS};
 
-/// The samples of an event: all words stored but its literal, if it came to that.
-fn samples(ended: &Ended) -> Vec<u16> {
-    let mark = ended.record.incoming_mark() as usize;
-    let is_whole = ended.record.status().code() == Code::NO_ERROR;
-    let stored = &ended.incoming[..if is_whole { mark - 4 } else { mark }];
-    let words = stored.as_chunks().0.iter();
-    words.map(|bytes| u16::from_le_bytes(*bytes)).collect()
+/// The samples of an event, and the scaler and the literal behind them, if it came to these.
+/// Here the samples are an even number; an odd one would have a pad behind it.
+fn parts(ended: &Ended) -> (Vec<u16>, Option<Word>) {
+    let stored = &ended.incoming[..ended.record.incoming_mark() as usize];
+    let (samples, scaler) = match ended.record.status().code() {
+        Code::NO_ERROR => {
+            let (samples, behind) = stored.split_at(stored.len() - 8);
+            (samples, behind.first_chunk().copied().map(Word::from))
+        }
+        _ => (stored, None),
+    };
+    let samples = samples.as_chunks().0.iter().copied();
+    (samples.map(u16::from_le_bytes).collect(), scaler)
 }
 
 fn event(host: &mut Host, ended: &Ended) -> Result<(), Refusal> {
+    let (samples, scaler) = parts(ended);
+    let scaler = scaler.map(|word| format!(", scaler {}", word.data()));
     println!("{}", words::ending(&ended.record));
-    println!("  {} samples stored", samples(ended).len());
+    println!(
+        "  {} samples stored{}",
+        samples.len(),
+        scaler.unwrap_or_default()
+    );
     host.serve_demands()
 }
 
@@ -32,7 +44,7 @@ pub fn waveform(list: &List) -> Result<(Ended, String), Refusal> {
     let mut host = Host::power_up();
     let ended = host.run_by_step(list, u64::from(SET_UP) + 1)?;
     event(&mut host, &ended)?;
-    let samples = samples(&ended);
+    let (samples, _) = parts(&ended);
     print!("{}", picture::text(&samples));
     Ok((ended, picture::svg(&samples)))
 }
@@ -44,7 +56,8 @@ pub fn rows(list: &List, before: &Ended) -> Result<(), Refusal> {
     let (ended, rows) = host.run_by_rows(list, SAMPLES_BLOCK)?;
     let is_same = ended.incoming == before.incoming && ended.record == before.record;
     let answer = if is_same { "yes" } else { "no" };
-    println!("  {rows} rows; the same bytes and the same record: {answer}");
+    let made = ended.made;
+    println!("  {made} operations in {rows} rows; the same bytes and the same record: {answer}");
     event(&mut host, &ended)
 }
 
@@ -52,7 +65,7 @@ pub fn fewer() -> Result<(), Refusal> {
     println!("Fewer samples than asked");
     let mut host = Host::power_up();
     let (ended, rows) = host.run_by_rows(&lists::event(700), SAMPLES_BLOCK)?;
-    println!("  {rows} rows");
+    println!("  {} operations in {rows} rows", ended.made);
     event(&mut host, &ended)
 }
 
@@ -146,8 +159,9 @@ pub fn endings() -> Result<(), Refusal> {
         let mut host = Host::power_up();
         host.simulated.ask_fault(fault, 7);
         let record = host.run_by_step(&list(), 0)?.record;
-        let (mark, code) = (record.incoming_mark(), words::code(&record));
-        println!("  {title:19} {mark:2} bytes, {code}");
+        let (mark, status) = (record.incoming_mark(), record.status().0);
+        let code = words::code(&record);
+        println!("  {title:19} {mark:2} bytes, status {status:08X}, {code}");
     }
     Ok(())
 }
