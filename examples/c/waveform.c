@@ -13,29 +13,19 @@
 
 #include "camlist.h"
 #include "crate.h"
+#include "lists.h"
 #include "picture.h"
 #include "words.h"
 
-#define CRATE 3
-#define TRY_LIMIT 4
 #define ROW 100 /* the most replies that are collected before the engine takes them */
-#define SET_UP 4
-#define SAMPLES_BLOCK 4 /* the instruction that reads the samples */
-#define END_OF_EVENT 0xE0E0E0E0u
 
-/* The modules' words in the incoming buffer: longwords, then 16-bit words. */
-#define SCALER_AT 0 /* four channels, a channel that is none, and an empty station */
-#define SCALER_WORDS 6
+/* Where the other modules' words lie in the incoming buffer: longwords, then 16-bit words. */
+#define SCALER_AT 0
 #define DECIMAL_AT 24
-#define LISTED_AT 32 /* by the list sequencer: its list has four words */
-#define LISTED_WORDS 5
+#define LISTED_AT 32
 #define ADC_AT 52
-#define ADC_WORDS 3
-#define SCAN_AT 58 /* all switches: 3 at station 14, 16 at 17 and 2 at 18 */
-#define SCAN_WORDS 21
+#define SCAN_AT 58
 #define BLOCK_AT 100
-#define BLOCK_WORDS 16
-#define BLOCK_SAMPLES 12
 
 /* The crate and the demands that it sent. */
 struct host {
@@ -66,54 +56,6 @@ static void require(const char *call, const uint64_t *answer)
                 camlist_refusal_text(answer[CAMLIST_NUMBER]));
         exit(1);
     }
-}
-
-/* Lists ------------------------------------------------------------------------------------------------------------------------------------ */
-
-/* A digitizer that is set to so many samples, triggered, and read until it has no more or 2,048 have come; then a scaler. */
-static void put_event(camlist_bytes *list, uint32_t samples)
-{
-    camlist_put_head(list, TRY_LIMIT);
-    camlist_put_inline(list, CRATE, CRATE_DIGITIZER, 1, 16, CAMLIST_STOP | CAMLIST_16_BIT, samples);     /* 0: how many samples */
-    camlist_put_single(list, CRATE, CRATE_DIGITIZER, 0, 26, CAMLIST_STOP);                               /* 1: enable its LAM */
-    camlist_put_single(list, CRATE, CRATE_SCALER, 0, 26, CAMLIST_STOP);                                  /* 2: and the scaler's */
-    camlist_put_single(list, CRATE, CRATE_DIGITIZER, 0, 25, CAMLIST_STOP);                               /* 3: trigger */
-    camlist_put_block(list, CRATE, CRATE_DIGITIZER, 0, 2, CAMLIST_STOP | CAMLIST_16_BIT, CRATE_SAMPLES); /* 4: the samples */
-    camlist_put_single(list, CRATE, CRATE_SCALER, 0, 0, CAMLIST_STOP);                                   /* 5: operations so far */
-    camlist_put_literal(list, END_OF_EVENT);                                                             /* 6 */
-    camlist_put_halt(list);                                                                              /* 7 */
-}
-
-/* Tests and clears the LAM of a station that sent a demand. */
-static void put_service(camlist_bytes *list, unsigned crate, unsigned n)
-{
-    camlist_put_head(list, TRY_LIMIT);
-    camlist_put_single(list, crate, n, 0, 8, CAMLIST_STOP);
-    camlist_put_single(list, crate, n, 0, 10, CAMLIST_STOP);
-    camlist_put_halt(list);
-}
-
-/* The other modules, each in its Q-mode. With AD = 1 the run goes on where a station is empty. */
-static void put_modules(camlist_bytes *list)
-{
-    camlist_put_head(list, TRY_LIMIT);
-    for (unsigned a = 0; a <= CRATE_CHANNELS; a++) {
-        camlist_put_single(list, CRATE, CRATE_SCALER, a, 0, CAMLIST_IGNORE | CAMLIST_ABORT_DISABLE);
-    }
-    camlist_put_single(list, CRATE, CRATE_SCALER + 1, 0, 0, CAMLIST_IGNORE | CAMLIST_ABORT_DISABLE);
-    camlist_put_sequencer(list, CRATE, 2, 0, CRATE_DECIMALS);
-    for (unsigned a = 0; a < CRATE_DECIMALS; a++) {
-        camlist_put_single(list, CRATE, CRATE_DECIMAL, a, 0, CAMLIST_STOP);
-    }
-    camlist_put_sequencer(list, CRATE, 0, 0, LISTED_WORDS);
-    camlist_put_single(list, CRATE, CRATE_ADC, 0, 25, CAMLIST_STOP);
-    camlist_put_block(list, CRATE, CRATE_ADC, 0, 0, CAMLIST_REPEAT | CAMLIST_16_BIT, ADC_WORDS);
-    camlist_put_block(list, CRATE, CRATE_SWITCHES, 0, 0, CAMLIST_SCAN | CAMLIST_16_BIT, SCAN_WORDS);
-    camlist_put_inline(list, CRATE, CRATE_DIGITIZER, 1, 16, CAMLIST_STOP | CAMLIST_16_BIT, BLOCK_SAMPLES);
-    camlist_put_single(list, CRATE, CRATE_DIGITIZER, 0, 25, CAMLIST_STOP);
-    camlist_put_enhanced(list, CRATE, CRATE_DIGITIZER, 0, 2, CAMLIST_STOP | CAMLIST_16_BIT, BLOCK_WORDS);
-    camlist_put_literal(list, END_OF_EVENT);
-    camlist_put_halt(list);
 }
 
 /* Demands ---------------------------------------------------------------------------------------------------------------------------------- */
@@ -194,6 +136,7 @@ static size_t collect(struct host *host, struct run *run, const uint64_t *wanted
  * the engine has seen the replies to those before them only where it knows that they will be wanted. All words that are left of such a block want the
  * same operation, while each answer has Q = X = 1 and no other flag. Any other reply closes the block or ends the run: behind it the engine may want
  * another operation or none, and a word read too early would be lost. So the row ends there. The other instructions here want one operation each.
+ * In a scan the answer decides on the next subaddress, and in a block of writes every operation has other data: those go operation by operation.
  */
 static unsigned run_by_rows(struct host *host, struct run *run, const camlist_bytes *list, uint64_t block)
 {
@@ -370,41 +313,6 @@ static void show_silence(struct host *host, struct run *run, const camlist_bytes
     show_event(host, run);
 }
 
-/* Endings ---------------------------------------------------------------------------------------------------------------------------------- */
-
-static void put_pulse(camlist_bytes *list)
-{
-    camlist_put_single(list, CRATE, CRATE_DIGITIZER, 0, 25, CAMLIST_STOP);
-    camlist_put_block(list, CRATE, CRATE_DIGITIZER, 0, 2, CAMLIST_STOP | CAMLIST_16_BIT, 16);
-}
-
-static void put_other_crate(camlist_bytes *list)
-{
-    camlist_put_single(list, CRATE + 1, CRATE_DIGITIZER, 0, 25, CAMLIST_STOP);
-}
-
-static void put_busy(camlist_bytes *list)
-{
-    camlist_put_inline(list, CRATE, CRATE_ADC, 1, 16, CAMLIST_STOP | CAMLIST_16_BIT, TRY_LIMIT);
-    camlist_put_single(list, CRATE, CRATE_ADC, 0, 25, CAMLIST_STOP);
-    camlist_put_single(list, CRATE, CRATE_ADC, 0, 0, CAMLIST_REPEAT | CAMLIST_16_BIT);
-}
-
-static void put_long_scan(camlist_bytes *list)
-{
-    camlist_put_block(list, CRATE, CRATE_SWITCHES, 0, 0, CAMLIST_SCAN | CAMLIST_16_BIT, SCAN_WORDS + 1);
-}
-
-static void put_empty_station(camlist_bytes *list)
-{
-    camlist_put_single(list, CRATE, CRATE_SCALER + 1, 0, 0, CAMLIST_STOP);
-}
-
-static void put_no_sample(camlist_bytes *list)
-{
-    camlist_put_single(list, CRATE, CRATE_DIGITIZER, 0, 2, CAMLIST_STOP | CAMLIST_16_BIT);
-}
-
 /* A run for each way to end: a fault of operation 7, or a list that asks too much. */
 static void show_endings(struct host *host, struct run *run)
 {
@@ -431,9 +339,7 @@ static void show_endings(struct host *host, struct run *run)
         uint8_t room[64];
         camlist_bytes list = {room, sizeof room, 0, 0};
         power_up(host);
-        camlist_put_head(&list, TRY_LIMIT);
         endings[k].put(&list);
-        camlist_put_halt(&list);
         crate_ask_fault(&host->crate, endings[k].fault, 7);
         run_by_step(host, run, &list, 0);
         printf("  %-19s %2" PRIu64 " bytes, status %08" PRIX64 ", ", endings[k].title, run->record[CAMLIST_RECORD_INCOMING_MARK],

@@ -17,7 +17,7 @@ static const char *code_words(unsigned code)
     case CAMLIST_CODE_STE: return "the answer had a parity error";
     case CAMLIST_CODE_TIMEOUT: return "no answer came in time, or all tries were made in vain";
     case CAMLIST_CODE_ADNR: return "no crate recognised the address";
-    case CAMLIST_CODE_NO_SYNC: return "the highway was out of step";
+    case CAMLIST_CODE_NO_SYNC: return "the highway was not in sync";
     default: return "a code that no run ends with";
     }
 }

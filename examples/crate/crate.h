@@ -37,6 +37,10 @@
 
 #include "camlist.h"
 
+#ifdef __cplusplus
+extern "C" {
+#endif
+
 #define CRATE_DIGITIZER 3
 #define CRATE_ADC 5
 #define CRATE_SCALER 8
@@ -56,8 +60,8 @@ enum crate_fault {
     CRATE_LPE,            /* longitudinal parity error: the same */
     CRATE_ERR,            /* the command reaches the crate damaged: ERR with X = 1 and Q = 0, nothing is done */
     CRATE_TIMEOUT,        /* the crate is silent, nothing is done; of the next two neither */
-    CRATE_NOT_RECOGNISED, /* no crate takes the message for its own */
-    CRATE_NO_SYNC         /* the highway is out of step */
+    CRATE_NOT_RECOGNISED, /* no crate recognises the address */
+    CRATE_NO_SYNC         /* the highway is not in sync */
 };
 
 /* An operation that the engine wants: the six numbers of its answer in their order. */
@@ -108,5 +112,9 @@ void crate_ask_fault(struct simulated_crate *crate, enum crate_fault fault, uint
 
 /* Hands out the demands sent since, the oldest first, crate and SGL byte of each: as many as the row has room for. The bytes used. */
 size_t crate_demands(struct simulated_crate *crate, uint8_t *row, size_t room);
+
+#ifdef __cplusplus
+}
+#endif
 
 #endif

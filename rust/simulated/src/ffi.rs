@@ -31,9 +31,9 @@ pub enum Fault {
     Err,
     /// The crate is silent, nothing is done; of the next two neither.
     Timeout,
-    /// No crate takes the message for its own.
+    /// No crate recognises the address.
     NotRecognised,
-    /// The highway is out of step.
+    /// The highway is not in sync.
     NoSync,
 }
 

@@ -14,11 +14,15 @@ mod ffi;
 
 pub use ffi::{Fault, Operation};
 
-/// The station of each module, and what there is of it.
+/// The digitizer's station.
 pub const DIGITIZER: u32 = 3;
+/// The ADC's station.
 pub const ADC: u32 = 5;
+/// The 24-bit scaler's station.
 pub const SCALER: u32 = 8;
+/// The decimal scaler's station.
 pub const DECIMAL: u32 = 10;
+/// The first of the stations with switches.
 pub const SWITCHES: u32 = 14;
 /// The most samples that a trigger takes.
 pub const SAMPLES: u32 = 2_048;

@@ -242,7 +242,7 @@ fn decimal_scaler_counts_in_digits() {
 }
 
 #[test]
-fn sequencer_makes_the_commands_of_its_lists() {
+fn sequencer_reads_by_its_lists() {
     let mut highway = Highway::new();
     for a in 0..4 {
         assert_eq!(highway.command(SEQUENCER, a, 12, 0), NOT_ACCEPTED);
@@ -264,6 +264,11 @@ fn sequencer_makes_the_commands_of_its_lists() {
         }
         assert_eq!(highway.enhanced(SEQUENCER, 1, 12, 0), NOT_DONE);
     }
+}
+
+#[test]
+fn sequencer_writes_by_its_lists() {
+    let mut highway = Highway::new();
     assert_eq!(highway.enhanced(SEQUENCER, 2, 12, 0x12_3456), DONE);
     assert_eq!(highway.enhanced(SEQUENCER, 2, 12, 0x00_0890), DONE);
     assert_eq!(highway.enhanced(SEQUENCER, 2, 12, 0x11_1111), NOT_DONE);

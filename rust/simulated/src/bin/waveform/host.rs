@@ -63,7 +63,9 @@ impl Host {
     /// of such a block want the same operation, while each answer has Q = X = 1 and no other
     /// flag. Any other reply closes the block or ends the run: behind it the engine may want
     /// another operation or none, and a word read too early would be lost. So the row ends there.
-    /// The other instructions here want one operation each.
+    /// The other instructions here want one operation each. In a scan the answer decides on the
+    /// next subaddress, and in a block of writes every operation has other data: those go
+    /// operation by operation.
     pub fn run_by_rows(&mut self, list: &[u8], block: u64) -> Result<(Ended, usize), Refusal> {
         let mut incoming = vec![0; INCOMING];
         let mut run = Run::start(list, &mut incoming, &OUTGOING)?;

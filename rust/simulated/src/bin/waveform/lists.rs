@@ -67,6 +67,7 @@ pub fn modules() -> List {
         .halt()
 }
 
+/// Sixteen samples.
 pub fn pulse() -> List {
     List::new(TRY_LIMIT)
         .single(Camac::at(CRATE, DIGITIZER, 0, 25))
@@ -74,12 +75,14 @@ pub fn pulse() -> List {
         .halt()
 }
 
+/// A crate that is not there.
 pub fn other_crate() -> List {
     List::new(TRY_LIMIT)
         .single(Camac::at(CRATE + 1, DIGITIZER, 0, 25))
         .halt()
 }
 
+/// An ADC that is busy at every try.
 pub fn busy() -> List {
     let busy = Camac::at(CRATE, ADC, 1, 16).bits16();
     List::new(TRY_LIMIT)
@@ -89,17 +92,20 @@ pub fn busy() -> List {
         .halt()
 }
 
+/// More switches than there are.
 pub fn long_scan() -> List {
     let switches = Camac::at(CRATE, SWITCHES, 0, 0).scan().bits16();
     List::new(TRY_LIMIT).block(switches, SCAN_WORDS + 1).halt()
 }
 
+/// An empty station.
 pub fn empty_station() -> List {
     List::new(TRY_LIMIT)
         .single(Camac::at(CRATE, SCALER + 1, 0, 0))
         .halt()
 }
 
+/// A digitizer without samples.
 pub fn no_sample() -> List {
     let sample = Camac::at(CRATE, DIGITIZER, 0, 2).bits16();
     List::new(TRY_LIMIT).single(sample).halt()

@@ -28,7 +28,7 @@ fn code_words(code: Code) -> &'static str {
         Code::STE => "the answer had a parity error",
         Code::TIMEOUT => "no answer came in time, or all tries were made in vain",
         Code::ADNR => "no crate recognised the address",
-        Code::NO_SYNC => "the highway was out of step",
+        Code::NO_SYNC => "the highway was not in sync",
         _ => "a code that no run ends with",
     }
 }
