@@ -537,7 +537,7 @@ fn names_of_the_header() {
     assert_eq!(Code::N_ABOVE_23.to_string(), "N>23");
 }
 
-/// Builds the C example and compares what it prints with its file `expected`.
+/// Builds the examples in C and compares what they print and draw with their files.
 #[test]
 fn c_example() {
     let example = repository("examples/c");
