@@ -313,7 +313,7 @@ static void show_silence(struct host *host, struct run *run, const camlist_bytes
     show_event(host, run);
 }
 
-/* A run for each way to end: a fault of operation 7, or a list that asks too much. */
+/* A run for each way to end: a fault of operation 7, or a list that asks too much. A delayed error ends nothing. */
 static void show_endings(struct host *host, struct run *run)
 {
     static const struct {
@@ -332,6 +332,7 @@ static void show_endings(struct host *host, struct run *run)
         {"an empty station", CRATE_NO_FAULT, put_empty_station},
         {"no sample", CRATE_NO_FAULT, put_no_sample},
         {"a damaged command", CRATE_ERR, put_pulse},
+        {"a delayed error", CRATE_DERR, put_pulse},
     };
 
     printf("Other endings\n");
@@ -342,10 +343,10 @@ static void show_endings(struct host *host, struct run *run)
         endings[k].put(&list);
         crate_ask_fault(&host->crate, endings[k].fault, 7);
         run_by_step(host, run, &list, 0);
-        printf("  %-19s %2" PRIu64 " bytes, status %08" PRIX64 ", ", endings[k].title, run->record[CAMLIST_RECORD_INCOMING_MARK],
-               run->record[CAMLIST_RECORD_STATUS]);
+        printf("  %-19s %2" PRIu64 " bytes, ", endings[k].title, run->record[CAMLIST_RECORD_INCOMING_MARK]);
         print_code(run->record[CAMLIST_RECORD_STATUS]);
-        printf("\n");
+        printf("\n%22s", "");
+        print_status(run->record[CAMLIST_RECORD_STATUS]);
     }
 }
 

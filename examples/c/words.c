@@ -22,8 +22,7 @@ static const char *code_words(unsigned code)
     }
 }
 
-/* The bits of a status, each in words, the code aside. */
-static void print_status(uint64_t status)
+void print_status(uint64_t status)
 {
     static const struct {
         uint32_t bit;
@@ -44,7 +43,7 @@ static void print_status(uint64_t status)
     };
     const char *between = "";
 
-    printf("  status %08" PRIX64 ": ", status);
+    printf("status %08" PRIX64 ": ", status);
     for (size_t k = 0; k < sizeof bits / sizeof bits[0]; k++) {
         if (status & bits[k].bit) {
             printf("%s%s", between, bits[k].words);
@@ -69,6 +68,6 @@ void print_ending(const uint64_t *record)
     printf("  ended at instruction %" PRIu64 " after %" PRIu64 " operations with ", record[CAMLIST_RECORD_INSTRUCTION],
            record[CAMLIST_RECORD_OPERATIONS]);
     print_code(status);
-    printf("\n");
+    printf("\n  ");
     print_status(status);
 }

@@ -290,7 +290,8 @@ static void put_answer(struct simulated_crate *crate, const struct crate_operati
 
     if (fault == CRATE_TPE) flags |= CAMLIST_TPE;
     if (fault == CRATE_LPE) flags |= CAMLIST_LPE;
-    camlist_put_answer(reply, flags, fault == CRATE_NO_FAULT ? answer.data : answer.data ^ 1u);
+    if (fault == CRATE_DERR) flags |= CAMLIST_DERR;
+    camlist_put_answer(reply, flags, fault == CRATE_TPE || fault == CRATE_LPE ? answer.data ^ 1u : answer.data);
 }
 
 size_t crate_bytes(void)

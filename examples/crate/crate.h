@@ -58,6 +58,7 @@ enum crate_fault {
     CRATE_NO_FAULT,
     CRATE_TPE,            /* transverse parity error: the operation is made, a bit of the answer's data is wrong */
     CRATE_LPE,            /* longitudinal parity error: the same */
+    CRATE_DERR,           /* delayed error: the operation is made, the answer has DERR */
     CRATE_ERR,            /* the command reaches the crate damaged: ERR with X = 1 and Q = 0, nothing is done */
     CRATE_TIMEOUT,        /* the crate is silent, nothing is done; of the next two neither */
     CRATE_NOT_RECOGNISED, /* no crate recognises the address */

@@ -27,6 +27,8 @@ pub enum Fault {
     Tpe,
     /// Longitudinal parity error: the same.
     Lpe,
+    /// Delayed error: the operation is made, the answer has DERR.
+    Derr,
     /// The command reaches the crate damaged: ERR with X = 1 and Q = 0, nothing is done.
     Err,
     /// The crate is silent, nothing is done; of the next two neither.

@@ -8,14 +8,16 @@ use simulated::{Crate, Fault, Operation, ADC, DECIMAL, DEMANDS, DIGITIZER, SCALE
 const X: u8 = 2;
 const Q_X: u8 = 3;
 const ERR: u8 = 4;
+const DERR: u8 = 8;
 const TPE: u8 = 16;
 const LPE: u8 = 32;
 
 /// Each fault with the reply to a read of 1 and whether the operation is made.
-const FAULTS: [(Fault, [u8; 8], bool); 7] = [
+const FAULTS: [(Fault, [u8; 8], bool); 8] = [
     (Fault::None, [0, Q_X, 0, 0, 1, 0, 0, 0], true),
     (Fault::Tpe, [0, Q_X | TPE, 0, 0, 0, 0, 0, 0], true),
     (Fault::Lpe, [0, Q_X | LPE, 0, 0, 0, 0, 0, 0], true),
+    (Fault::Derr, [0, Q_X | DERR, 0, 0, 1, 0, 0, 0], true),
     (Fault::Err, [0, X | ERR, 0, 0, 0, 0, 0, 0], false),
     (Fault::Timeout, [1, 0, 0, 0, 0, 0, 0, 0], false),
     (Fault::NotRecognised, [2, 0, 0, 0, 0, 0, 0, 0], false),

@@ -139,9 +139,10 @@ pub fn silence(list: &List) -> Result<(), Refusal> {
 
 type Put = fn() -> List;
 
-/// A run for each way to end: a fault of operation 7, or a list that asks too much.
+/// A run for each way to end: a fault of operation 7, or a list that asks too much. A delayed
+/// error ends nothing.
 pub fn endings() -> Result<(), Refusal> {
-    let endings: [(&str, Fault, Put); 11] = [
+    let endings: [(&str, Fault, Put); 12] = [
         ("no fault", Fault::None, lists::pulse),
         ("no sync", Fault::NoSync, lists::pulse),
         ("an address lost", Fault::NotRecognised, lists::pulse),
@@ -153,15 +154,16 @@ pub fn endings() -> Result<(), Refusal> {
         ("an empty station", Fault::None, lists::empty_station),
         ("no sample", Fault::None, lists::no_sample),
         ("a damaged command", Fault::Err, lists::pulse),
+        ("a delayed error", Fault::Derr, lists::pulse),
     ];
     println!("Other endings");
     for (title, fault, list) in endings {
         let mut host = Host::power_up();
         host.simulated.ask_fault(fault, 7);
         let record = host.run_by_step(&list(), 0)?.record;
-        let (mark, status) = (record.incoming_mark(), record.status().0);
-        let code = words::code(&record);
-        println!("  {title:19} {mark:2} bytes, status {status:08X}, {code}");
+        let (mark, code) = (record.incoming_mark(), words::code(&record));
+        println!("  {title:19} {mark:2} bytes, {code}");
+        println!("{:22}{}", "", words::status(&record));
     }
     Ok(())
 }

@@ -39,17 +39,21 @@ pub fn code(record: &Record) -> String {
     format!("code {:X}, {code}: {}", code.number(), code_words(code))
 }
 
-/// The instruction, the operations, the code and the status bits, on two lines.
-pub fn ending(record: &Record) -> String {
+/// The status and its bits.
+pub fn status(record: &Record) -> String {
     let status = record.status();
     let met = BITS.iter().filter(|(bit, _)| status.has(*bit));
     let words: Vec<&str> = met.map(|(_, words)| *words).collect();
+    format!("status {:08X}: {}", status.0, words.join("; "))
+}
+
+/// The instruction, the operations, the code and the status bits, on two lines.
+pub fn ending(record: &Record) -> String {
     format!(
-        "  ended at instruction {} after {} operations with {}\n  status {:08X}: {}",
+        "  ended at instruction {} after {} operations with {}\n  {}",
         record.instruction(),
         record.operations(),
         code(record),
-        status.0,
-        words.join("; ")
+        status(record)
     )
 }
