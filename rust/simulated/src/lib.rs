@@ -10,6 +10,8 @@
 //! assert_eq!(simulated.operate(read), [0, 0b11, 0, 0, 0x7A, 0x05, 0, 0]);
 //! ```
 
+#[cfg(library)]
+pub mod examples;
 mod ffi;
 
 pub use ffi::{Fault, Operation};

@@ -1,0 +1,92 @@
+// The walk, visit by visit, as admission adds it up.
+use crate::text::print;
+use crate::text::print_column;
+use crate::text::print_number;
+use listfile::Instruction;
+use listfile::Sizes;
+use walk::Counts;
+use walk::Turn;
+ghost use Prim.Native.Nat.{_^_, _<_, _≤_};
+ghost use lib.ListN.{length};
+ghost use Rattle.listfile.specs.model.Table.{TableRight};
+
+// Every visit of a list that passed 1 to 10.
+pub fn print_walk(list: &[u8], table: &[u16], sizes: Sizes)
+    requires { ⌜ (sizes .count ≤ length (now table)) × ((sizes .count ≤ 4096) × ((sizes .limit < 2 ^ 16) × TableRight (now list) (now table) (sizes .count))) ⌝ }
+{
+    let count = sizes.count;
+    let limit = sizes.limit as u64;
+    let mut here = walk::first_spot();
+    let mut visits: usize = 0;
+    let mut sums = Counts {
+        worst: 0,
+        incoming: 0,
+        outgoing: 0,
+    };
+    print(b"\n   walk  operations at most        incoming mark        outgoing mark\n");
+    while visits < count {
+        let k = here.instruction;
+        if count <= k {
+            break;
+        }
+        let place = table[k];
+        let turn = walk::turn_at(list, place, here, limit, sums);
+        let Turn::To(next, after) = turn else {
+            print_column(k as u64, 7);
+            print(b"  halt\n");
+            return;
+        };
+        print_visit(k, sums, after);
+        print_pads(listfile::instruction_at(list, place), sums, after);
+        here = next;
+        sums = after;
+        visits += 1;
+    }
+    print_lost(count, here.instruction);
+}
+
+// The instruction that is visited, its share of W, and the marks before and after it.
+fn print_visit(k: usize, before: Counts, after: Counts) {
+    print_column(k as u64, 7);
+    print_column(base::less(after.worst, before.worst), 20);
+    print_marks(before.incoming, after.incoming);
+    print_marks(before.outgoing, after.outgoing);
+}
+
+// The pad that comes first where longwords follow a mark that is no multiple of 4.
+fn print_pads(i: Instruction, before: Counts, after: Counts) {
+    let longwords = is_of_longwords(i);
+    let stored = (before.incoming < after.incoming) & (before.incoming % 4 == 2);
+    let taken = (before.outgoing < after.outgoing) & (before.outgoing % 4 == 2);
+    if longwords & (stored | taken) {
+        print(b"  2 pad bytes first");
+    }
+    print(b"\n");
+}
+
+fn is_of_longwords(i: Instruction) -> bool {
+    match i {
+        Instruction::Camac(c) => c.wide,
+        Instruction::Jump(_) => false,
+        Instruction::Literal(_) => true,
+        Instruction::Halt => false,
+    }
+}
+
+fn print_marks(before: u64, after: u64) {
+    print_column(before, 10);
+    print(b" to ");
+    print_column(after, 7);
+}
+
+// Where a walk comes to that doesn't halt.
+fn print_lost(count: usize, k: usize) {
+    print(b"  the walk ");
+    if k < count {
+        print(b"comes to instruction ");
+        print_number(k as u64);
+        print(b" again\n");
+    } else {
+        print(b"passes the last field\n");
+    }
+}
