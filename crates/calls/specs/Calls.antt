@@ -1,4 +1,4 @@
--- The calls: start, step, the whole run, the last moved word (document 01, "The calls" and "Who can cause which refusal").
+-- The calls: start, step, the whole run, several replies, the last moved word (document 01, "The calls" and "Who can cause which refusal").
 use Prim.Native.Nat.{ℕ, _+_}
 use mathlib.Core.Path.{_≡_}
 use mathlib.Core.Bool.{Bool, true, false}

@@ -15,7 +15,7 @@ ghost use lib.ListN.{length};
 const SHOWN: u64 = 40;
 
 // The run's end, with the kind of its last reply; or what it waits for.
-pub fn print_end(r: Record, wanted: Operation, kind: u8) {
+pub(crate) fn print_end(r: Record, wanted: Operation, kind: u8) {
     let spot = r.spot;
     if r.ended {
         print(b"\nended at instruction ");
@@ -97,7 +97,7 @@ fn print_wanted(left: u64, o: Operation) {
 }
 
 // Operations and marks beside W, B and O.
-pub fn print_counts(r: Record, c: Counts) {
+pub(crate) fn print_counts(r: Record, c: Counts) {
     let marks = r.marks;
     print_used(b"  operations: ", r.operations, c.worst);
     print_used(b"  bytes stored: ", marks.incoming as u64, c.incoming);
@@ -113,7 +113,7 @@ fn print_used(what: &[u8], used: u64, most: u64) {
 }
 
 // The status, and each of its bits in words.
-pub fn print_status(status: u32) {
+pub(crate) fn print_status(status: u32) {
     print(b"  status ");
     print_hex(status, 8);
     print(b"h:");
@@ -144,7 +144,7 @@ fn print_bit(status: u32, bit: u32, words: &[u8])
 }
 
 // The last moved word, its buffer and place.
-pub fn print_last<'a>(incoming: &'a [u8], outgoing: &'a [u8], note: Note) {
+pub(crate) fn print_last<'a>(incoming: &'a [u8], outgoing: &'a [u8], note: Note) {
     if note.size == 0 {
         print(b"  no word was moved\n");
         return;
@@ -161,7 +161,7 @@ pub fn print_last<'a>(incoming: &'a [u8], outgoing: &'a [u8], note: Note) {
 }
 
 // The first of the bytes that were stored.
-pub fn print_stored(incoming: &[u8], mark: usize) {
+pub(crate) fn print_stored(incoming: &[u8], mark: usize) {
     let end = base::least(mark as u64, SHOWN) as usize;
     if incoming.len() < end {
         return;

@@ -13,14 +13,14 @@ use listfile::Instruction;
 use qmodes::QMode;
 
 // The first field, below the names of the columns.
-pub fn print_head(limit: u64) {
+pub(crate) fn print_head(limit: u64) {
     print(b"  place  number  field\n      0    head  format 1, try limit R = ");
     print_number(limit);
     print(b"\n");
 }
 
 // An instruction, with its place and its number.
-pub fn print_field(place: usize, number: usize, limit: u64, i: Instruction) {
+pub(crate) fn print_field(place: usize, number: usize, limit: u64, i: Instruction) {
     print_column(place as u64, 7);
     print_column(number as u64, 8);
     print(b"  ");
@@ -41,7 +41,7 @@ pub fn print_field(place: usize, number: usize, limit: u64, i: Instruction) {
 }
 
 // A CAMAC instruction: what it moves and where; in a second line its Q-mode and AD.
-pub fn print_command(limit: u64, c: Command) {
+pub(crate) fn print_command(limit: u64, c: Command) {
     let t = c.transfer;
     print_transfer(t, c.wide);
     print_address(camac::address_of(t));
@@ -100,7 +100,7 @@ fn print_words(wide: bool, n: u64) {
     }
 }
 
-pub fn print_address(a: Address) {
+pub(crate) fn print_address(a: Address) {
     print(b", crate ");
     print_number(a.crate_number as u64);
     print(b", N ");

@@ -14,7 +14,7 @@ use reply::Record;
 
 // An operation and its reply: the operation's number and instruction, the reply's kind, flags and data, whether a word was moved, and the code with
 // which the run ended there, 0 where it did not or by a halt.
-pub struct Event {
+pub(crate) struct Event {
     pub number: u64,
     pub instruction: usize,
     pub made: Operation,
@@ -26,14 +26,14 @@ pub struct Event {
 }
 
 // Operations in a row with like replies: the first and the last of them; `count` is 0 for none, 1 for one, 2 for several.
-pub struct Stretch {
+pub(crate) struct Stretch {
     pub count: u8,
     pub first: Event,
     pub last: Event,
 }
 
 // The event of a reply that took a run from one record to the next.
-pub fn event_of(before: Record, made: Operation, reply: &[u8], after: Record) -> Event {
+pub(crate) fn event_of(before: Record, made: Operation, reply: &[u8], after: Record) -> Event {
     let spot = before.spot;
     let earlier = before.note;
     let later = after.note;
@@ -55,7 +55,7 @@ fn is_same_note(a: Note, b: Note) -> bool {
 }
 
 // No operation yet.
-pub fn no_stretch(r: Record, wanted: Operation) -> Stretch {
+pub(crate) fn no_stretch(r: Record, wanted: Operation) -> Stretch {
     let e = event_of(r, wanted, b"", r);
     Stretch {
         count: 0,
@@ -75,7 +75,7 @@ fn is_like(s: Stretch, e: Event) -> bool {
 }
 
 // A stretch with one event more. Where that is of another kind the stretch is printed, and one begins.
-pub fn gathered(list: &[u8], table: &[u16], s: Stretch, e: Event) -> Stretch {
+pub(crate) fn gathered(list: &[u8], table: &[u16], s: Stretch, e: Event) -> Stretch {
     if is_like(s, e) {
         let first = s.first;
         return Stretch {
@@ -93,7 +93,7 @@ pub fn gathered(list: &[u8], table: &[u16], s: Stretch, e: Event) -> Stretch {
 }
 
 // A stretch in words: its operations, what was answered, what came of it.
-pub fn print_stretch(list: &[u8], table: &[u16], s: Stretch) {
+pub(crate) fn print_stretch(list: &[u8], table: &[u16], s: Stretch) {
     let first = s.first;
     let k = first.instruction;
     if s.count == 0 {

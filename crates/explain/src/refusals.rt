@@ -8,7 +8,7 @@ use base::Refusal;
 const SHOWN: u64 = 11;
 
 // A refusal that has the place of a field.
-pub fn print_field_refused(list: &[u8], count: usize, r: Refusal) {
+pub(crate) fn print_field_refused(list: &[u8], count: usize, r: Refusal) {
     let place = r.place;
     print_refused(r);
     print(b"  the bytes there:");
@@ -28,7 +28,7 @@ fn shown_at(list: &[u8], place: usize) -> usize {
 }
 
 // A refusal's number, place and words.
-pub fn print_refused(r: Refusal) {
+pub(crate) fn print_refused(r: Refusal) {
     print(b"\nrefused ");
     print_number(r.number as u64);
     print(b", place ");

@@ -131,7 +131,13 @@ fn print_left(n: u64) {
 }
 
 // The run of an admitted list.
-pub fn explain_run(list: &[u8], table: &[u16], counts: Counts, replies: &[u8], outgoing: &[u8]) {
+pub(crate) fn explain_run(
+    list: &[u8],
+    table: &[u16],
+    counts: Counts,
+    replies: &[u8],
+    outgoing: &[u8],
+) {
     let wrong = first_wrong(replies);
     if wrong < replies.len() {
         print_wrong(replies, wrong);

@@ -1,23 +1,23 @@
 // What is printed: text, numbers, rows of bytes.
 ghost use Prim.Native.Nat.{_≤_};
 
-pub fn print(text: &[u8]) {
+pub(crate) fn print(text: &[u8]) {
     io::write_all(1, text);
 }
 
-pub fn print_number(n: u64) {
+pub(crate) fn print_number(n: u64) {
     io::print_decimal(1, n);
 }
 
 // A number at the right end of a column of so many characters.
-pub fn print_column(n: u64, width: usize) {
+pub(crate) fn print_column(n: u64, width: usize) {
     let mut digits = [0u8; 20];
     let used = io::decimal(n, &mut digits);
     print_blanks(base::less(width as u64, used as u64));
     print_number(n);
 }
 
-pub fn print_blanks(n: u64) {
+pub(crate) fn print_blanks(n: u64) {
     let mut left = n;
     while 0 < left {
         print(b" ");
@@ -26,7 +26,7 @@ pub fn print_blanks(n: u64) {
 }
 
 // A number of one thing, or of several.
-pub fn print_plural(n: u64, one: &[u8], several: &[u8]) {
+pub(crate) fn print_plural(n: u64, one: &[u8], several: &[u8]) {
     print_number(n);
     if n == 1 {
         print(one);
@@ -42,7 +42,7 @@ fn digit(n: u32) -> u8 {
 }
 
 // The lowest hexadecimal digits of a number. A longword has eight.
-pub fn print_hex(n: u32, digits: u32)
+pub(crate) fn print_hex(n: u32, digits: u32)
     requires { ⌜ digits ≤ 8 ⌝ }
 {
     let mut left = digits;
@@ -53,7 +53,7 @@ pub fn print_hex(n: u32, digits: u32)
 }
 
 // A word of 16 or of 24 bits.
-pub fn print_word(wide: bool, n: u32) {
+pub(crate) fn print_word(wide: bool, n: u32) {
     if wide {
         print_hex(n, 6);
     } else {
@@ -63,7 +63,7 @@ pub fn print_word(wide: bool, n: u32) {
 }
 
 // Bytes, each behind a blank.
-pub fn print_bytes(bytes: &[u8]) {
+pub(crate) fn print_bytes(bytes: &[u8]) {
     let mut at: usize = 0;
     while at < bytes.len() {
         print(b" ");
@@ -73,7 +73,7 @@ pub fn print_bytes(bytes: &[u8]) {
 }
 
 // Up to so many bytes of a row from a place on.
-pub fn print_some(bytes: &[u8], place: usize, most: usize) {
+pub(crate) fn print_some(bytes: &[u8], place: usize, most: usize) {
     if bytes.len() <= place {
         print(b" none");
         return;

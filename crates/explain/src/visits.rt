@@ -11,7 +11,7 @@ ghost use lib.ListN.{length};
 ghost use Rattle.listfile.specs.model.Table.{TableRight};
 
 // Every visit of a list that passed 1 to 10.
-pub fn print_walk(list: &[u8], table: &[u16], sizes: Sizes)
+pub(crate) fn print_walk(list: &[u8], table: &[u16], sizes: Sizes)
     requires { ⌜ (sizes .count ≤ length (now table)) × ((sizes .count ≤ 4096) × ((sizes .limit < 2 ^ 16) × TableRight (now list) (now table) (sizes .count))) ⌝ }
 {
     let count = sizes.count;

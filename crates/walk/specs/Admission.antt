@@ -1,4 +1,5 @@
--- Admission (document 01, "The calls", "Worst count", refusals 11, 20 and 21): one definition prepares a list, and every call uses it.
+-- Admission (document 01, "The calls", "Worst count", refusals 11, 20 and 21): one definition prepares a list, and every call
+-- that is given a list uses it.
 use Prim.Native.Nat.{ℕ}
 use mathlib.Core.List.{List, [], _∷_}
 use mathlib.Core.Option.{Option, none, some}

@@ -1,5 +1,5 @@
--- The slowest reply: answered with it at every operation, a run makes the worst count of operations (proofs/WorstReached). Each slowest
--- reply is no cause and lowers the most still possible by exactly one.
+-- The slowest reply: answered with it at every operation, a run makes the worst count of operations (proofs/WorstReached). In such
+-- a run each slowest reply is no cause and lowers the most still possible by exactly one.
 use Prim.Native.Nat.{ℕ}
 use mathlib.Core.Bool.{Bool}
 use mathlib.Core.List.{List, [], _∷_}
