@@ -81,6 +81,18 @@ fn explanations() {
     }
 }
 
+/// README shows what is printed of the first example, and has a row for each.
+#[test]
+fn readme() {
+    let text = |place| String::from_utf8(bytes(&repository(place))).expect("text");
+    let (readme, first) = (text("README.md"), text("examples/first/explain.expected"));
+    assert!(readme.contains(&format!("```\n{first}```\n")), "the text");
+    for folder in folders() {
+        let name = folder.file_name().expect("a name").to_string_lossy();
+        assert!(readme.contains(&format!("\n| `{name}` |")), "{name}");
+    }
+}
+
 /// The kit runs explain on one of the examples, too.
 #[test]
 fn the_program_s_own_run() {
