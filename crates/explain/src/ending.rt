@@ -11,7 +11,7 @@ use walk::Counts;
 ghost use Prim.Native.Nat.{_≤_};
 ghost use lib.ListN.{length};
 
-// The most bytes that are shown of the incoming buffer.
+// The most bytes that are shown of a buffer.
 const SHOWN: u64 = 40;
 
 // The run's end, with the kind of its last reply; or what it waits for.
@@ -116,7 +116,9 @@ fn print_used(what: &[u8], used: u64, most: u64) {
 pub(crate) fn print_status(status: u32) {
     print(b"  status ");
     print_hex(status, 8);
-    print(b"h:");
+    print(b"h: bits 31 to 28, code ");
+    print_hex(status >> 28, 1);
+    print(b";");
     print_bit(status, 26, b" bit 26, delayed error;");
     print_bit(status, 25, b" bit 25, timeout or tries spent;");
     print_bit(status, 24, b" bit 24, no sync;");
@@ -160,15 +162,15 @@ pub(crate) fn print_last<'a>(incoming: &'a [u8], outgoing: &'a [u8], note: Note)
     print(b"\n");
 }
 
-// The first of the bytes that were stored.
-pub(crate) fn print_stored(incoming: &[u8], mark: usize) {
+// The first of a buffer's bytes up to its mark.
+pub(crate) fn print_used_bytes(name: &[u8], buffer: &[u8], mark: usize) {
     let end = base::least(mark as u64, SHOWN) as usize;
-    if incoming.len() < end {
+    if buffer.len() < end {
         return;
     }
     if 0 < end {
-        print(b"  incoming buffer:");
-        print_bytes(&incoming[0..end]);
+        print(name);
+        print_bytes(&buffer[0..end]);
         if end < mark {
             print(b" ..");
         }

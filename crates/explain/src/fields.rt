@@ -14,7 +14,7 @@ use qmodes::QMode;
 
 // The first field, below the names of the columns.
 pub(crate) fn print_head(limit: u64) {
-    print(b"  place  number  field\n      0    head  format 1, try limit R = ");
+    print(b"  place  number  what it does\n      0    head  format 1, try limit R = ");
     print_number(limit);
     print(b"\n");
 }
@@ -86,7 +86,7 @@ fn print_single(t: Transfer, wide: bool) {
     match d {
         Direction::Incoming => print_words(wide, 1),
         Direction::Outgoing => print_words(wide, 1),
-        Direction::Neither => print(b"control, no data"),
+        Direction::Neither => print(b"command without data"),
     }
 }
 
@@ -141,8 +141,9 @@ fn print_rule(limit: u64, t: Transfer) {
         }
         QMode::Ignore => print(b"ignore (a word is done whatever Q is)"),
         QMode::Repeat => {
-            print(b"repeat (a word is tried until Q = 1, at most ");
-            print_plural(limit, b" time)", b" times)");
+            print(b"repeat (a word is tried until Q = 1; Q = 0 on try ");
+            print_number(limit);
+            print(b" ends the run)");
         }
         QMode::Scan => {
             print(
@@ -155,17 +156,43 @@ fn print_rule(limit: u64, t: Transfer) {
 // AD, and what it says of other errors. A scan asks for no X.
 fn print_ad(q: QMode, ad: bool) {
     if ad {
-        print(b"; AD = 1 (");
+        print(b"; AD = 1 (not ended by ");
     } else {
-        print(b"; AD = 0 (");
+        print(b"; AD = 0 (ended by ");
     }
     if !qmodes::is_scan(q) {
         print(b"X = 0, ");
     }
-    print(b"a parity error or ERR with X = 1 ");
-    if ad {
-        print(b"does not end the run)\n");
+    print(b"a parity error, or a damaged command: ERR while X = 1)\n");
+}
+
+// The parts of a CAMAC field that is refused: no words are made of them, since they may not go together.
+pub(crate) fn print_parts(place: usize, number: usize, first: u32) {
+    let c = camac::command_in(first, 0);
+    let t = c.transfer;
+    print_column(place as u64, 7);
+    print_column(number as u64, 8);
+    print(b"  refused: transfer mode ");
+    print_number(camac::mode_in(first) as u64);
+    print(b", Q-mode ");
+    print_number(((first >> 3) % 4) as u64);
+    print_address(camac::address_of(t));
+    if c.wide {
+        print(b", 24 bits");
     } else {
-        print(b"ends the run)\n");
+        print(b", 16 bits");
+    }
+}
+
+// The second longword: data of an inline write, else the count of a block.
+pub(crate) fn print_second(mode: u32, second: u32) {
+    if mode == 3 {
+        print(b", data ");
+        print_hex(second, 8);
+        print(b"h");
+    } else {
+        print(b", count ");
+        print_number((1 << 32) - (second as u64));
+        print(b" halfwords");
     }
 }

@@ -10,6 +10,8 @@ mod visits;
 
 use crate::fields::print_field;
 use crate::fields::print_head;
+use crate::fields::print_parts;
+use crate::fields::print_second;
 use crate::refusals::print_field_refused;
 use crate::refusals::print_refused;
 use crate::replies::explain_run;
@@ -20,15 +22,14 @@ use crate::visits::print_walk;
 use base::Refusal;
 use listfile::Checked;
 use listfile::FieldRead;
-use listfile::Instruction;
 use walk::Admission;
 use walk::Counts;
 ghost use Prim.Native.Nat.{_≤_};
 ghost use lib.ListN.{length};
 ghost use Rattle.io.specs.Counts.{Counts as CountsBytes};
 
-// The bytes of the incoming buffer.
-const INCOMING: usize = 65536;
+// The most bytes that are read of a file, and those of the incoming buffer.
+const MOST_BYTES: usize = 65536;
 
 // A length that every list fits.
 const MOST: usize = 0xFFFFFFFFFFFFFFFF;
@@ -43,6 +44,9 @@ fn main() {
     let replies_size = read_file(b"run.rep", &mut replies);
     let mut outgoing = io::large_buffer();
     let outgoing_size = read_file(b"run.out", &mut outgoing);
+    print_full(b"run.lst", list_size);
+    print_full(b"run.rep", replies_size);
+    print_full(b"run.out", outgoing_size);
     explain(
         &list[..list_size],
         &replies[..replies_size],
@@ -61,6 +65,14 @@ fn read_file(name: &[u8], bytes: &mut [u8]) -> usize
     let size = io::read_full(file, bytes);
     libc::close(file);
     size
+}
+
+// A file of which the buffer holds no more.
+fn print_full(name: &[u8], size: usize) {
+    if size == MOST_BYTES {
+        print(name);
+        print(b": 65536 bytes were read, and no more are\n");
+    }
 }
 
 // The list; then, where its fields are right, its walk and its run.
@@ -114,7 +126,7 @@ fn print_fields(list: &[u8], end: usize) -> usize
     count
 }
 
-// A field that 6 to 9 refuses, as its bits read.
+// A field that 6 to 9 refuses: what its bits say.
 fn print_wrong_field(list: &[u8], count: usize, r: Refusal) {
     let place = r.place;
     if r.number < 6 {
@@ -124,34 +136,32 @@ fn print_wrong_field(list: &[u8], count: usize, r: Refusal) {
         return;
     }
     let first = base::long_at(list, place + 3);
-    let second = base::long_at(list, place + 7);
-    let c = camac::command_in(first, second);
-    print_field(
-        place,
-        count,
-        base::short_at(list, 5) as u64,
-        Instruction::Camac(c),
-    );
+    print_parts(place, count, first);
+    if base::short_at(list, place + 1) == 8 {
+        print_second(camac::mode_in(first), base::long_at(list, place + 7));
+    }
+    print(b"\n");
 }
 
 // Admission of a list whose fields are right, then its run.
 fn explain_admitted(list: &[u8], table: &[u16], replies: &[u8], outgoing: &[u8]) {
-    let admission = walk::admit(list, INCOMING, outgoing.len());
+    let admission = walk::admit(list, MOST_BYTES, outgoing.len());
     match admission {
         Admission::Refused(r) => {
             print_refused(r);
             print_needed(list, r.number, outgoing.len());
         }
         Admission::Admitted(counts) => {
-            print_admitted(counts);
+            print(b"\nadmitted:");
+            print_counts_of(counts);
             explain_run(list, table, counts, replies, outgoing);
         }
     }
 }
 
 // W, B and O.
-fn print_admitted(c: Counts) {
-    print(b"\nadmitted: W = ");
+fn print_counts_of(c: Counts) {
+    print(b" W = ");
     print_plural(
         c.worst,
         b" operation at most, B = ",
@@ -179,14 +189,11 @@ fn print_needed(list: &[u8], number: u8, outgoing: usize) {
         return;
     };
     if number == 20 {
-        print(b"  expected: room for ");
-        print_number(counts.incoming);
-        print(b" bytes; here are 65536\n");
+        print(b"  expected: room for B bytes, where 65536 are here;");
     } else {
-        print(b"  expected: ");
-        print_number(counts.outgoing);
-        print(b" bytes of outgoing words; run.out has ");
+        print(b"  expected: O bytes, where run.out has ");
         print_number(outgoing as u64);
-        print(b"\n");
+        print(b";");
     }
+    print_counts_of(counts);
 }

@@ -7,13 +7,17 @@ use camac::Command;
 use camac::Direction;
 use camac::Transfer;
 use listfile::Instruction;
+use packing::Marks;
 use qmodes::Answer;
 use qmodes::QMode;
 use reply::Note;
 use reply::Record;
 
-// An operation and its reply: the operation's number and instruction, the reply's kind, flags and data, whether a word was moved, and the code with
-// which the run ended there, 0 where it did not or by a halt.
+// Above the offset of every byte of a buffer.
+const MOST: u64 = 65536;
+
+// An operation and its reply: the operation's number and instruction, the reply's kind, flags and data, whether a word was moved, behind a pad or not, its
+// first byte and its last, and the code with which the run ended there, 0 where it did not or by a halt.
 pub(crate) struct Event {
     pub number: u64,
     pub instruction: usize,
@@ -22,6 +26,9 @@ pub(crate) struct Event {
     pub flags: u8,
     pub word: u32,
     pub moved: bool,
+    pub padded: bool,
+    pub from: u64,
+    pub to: u64,
     pub code: u32,
 }
 
@@ -37,6 +44,9 @@ pub(crate) fn event_of(before: Record, made: Operation, reply: &[u8], after: Rec
     let spot = before.spot;
     let earlier = before.note;
     let later = after.note;
+    let from = later.offset as u64;
+    let marks = before.marks;
+    let moved = !is_same_note(earlier, later);
     Event {
         number: after.operations,
         instruction: spot.instruction,
@@ -44,9 +54,20 @@ pub(crate) fn event_of(before: Record, made: Operation, reply: &[u8], after: Rec
         kind: base::byte_at(reply, 0),
         flags: base::byte_at(reply, 1),
         word: base::long_at(reply, 4),
-        moved: !is_same_note(earlier, later),
+        moved: moved,
+        padded: moved & (mark_of(later, marks) < from),
+        from: from,
+        to: base::least(from, MOST) + base::less(base::least(later.size as u64, 4), 1),
         code: after.status >> 28,
     }
+}
+
+// The mark of the buffer that a note names.
+fn mark_of(note: Note, m: Marks) -> u64 {
+    if note.buffer == 0 {
+        return m.incoming as u64;
+    }
+    m.outgoing as u64
 }
 
 // A word that is moved is noted, each at another place.
@@ -112,7 +133,7 @@ pub(crate) fn print_stretch(list: &[u8], table: &[u16], s: Stretch) {
     print_reply(first.kind, first.flags);
     print_read(c, s);
     print(b": ");
-    print_effect(c, s.last);
+    print_effect(c, s);
     print(b"\n");
 }
 
@@ -132,6 +153,8 @@ fn print_operations(s: Stretch) {
     print_number(last.number);
     print(b", instruction ");
     print_number(first.instruction as u64);
+    print(b", crate ");
+    print_number(from.crate_number as u64);
     print(b", ");
     print_position(from);
     if (from.station != to.station) | (from.subaddress != to.subaddress) {
@@ -237,18 +260,20 @@ fn print_read(c: Command, s: Stretch) {
 }
 
 // What came of a reply.
-fn print_effect(c: Command, e: Event) {
+fn print_effect(c: Command, s: Stretch) {
     let t = c.transfer;
     let q = camac::qmode_of(t);
+    let e = s.last;
     if e.code != 0 {
         if e.moved {
-            print(b"moved, then ");
+            print_done(c, s);
+            print(b"; then ");
         }
         print(b"the run ends");
         return;
     }
     if qmodes::is_done(q, answer_of(e)) {
-        print_done(camac::direction_of(t), c.wide);
+        print_done(c, s);
         return;
     }
     match q {
@@ -259,17 +284,35 @@ fn print_effect(c: Command, e: Event) {
     }
 }
 
-fn print_done(d: Direction, wide: bool) {
+// Where the words went that were done.
+fn print_done(c: Command, s: Stretch) {
+    let t = c.transfer;
+    let d = camac::direction_of(t);
     match d {
         Direction::Incoming => {
-            if wide {
-                print(b"stored, Q and X in bits 31 and 30");
-            } else {
-                print(b"stored");
+            print(b"stored at ");
+            print_place(s);
+            if c.wide {
+                print(b", Q and X in bits 31 and 30");
             }
         }
-        Direction::Outgoing => print(b"taken from the outgoing buffer"),
+        Direction::Outgoing => {
+            print(b"taken from ");
+            print_place(s);
+        }
         Direction::Neither => print(b"done"),
+    }
+}
+
+// The bytes of words in their buffer.
+fn print_place(s: Stretch) {
+    let first = s.first;
+    let last = s.last;
+    print_number(first.from);
+    print(b" to ");
+    print_number(last.to);
+    if first.padded {
+        print(b", behind 2 pad bytes");
     }
 }
 

@@ -3,7 +3,7 @@ use crate::ending::print_counts;
 use crate::ending::print_end;
 use crate::ending::print_last;
 use crate::ending::print_status;
-use crate::ending::print_stored;
+use crate::ending::print_used_bytes;
 use crate::operations::Stretch;
 use crate::operations::event_of;
 use crate::operations::gathered;
@@ -157,6 +157,7 @@ pub(crate) fn explain_run(
     print_status(r.status);
     print_last(incoming, outgoing, r.note);
     let marks = r.marks;
-    print_stored(incoming, marks.incoming);
+    print_used_bytes(b"  incoming buffer:", incoming, marks.incoming);
+    print_used_bytes(b"  outgoing buffer:", outgoing, marks.outgoing);
     print_left(base::less((replies.len() / 8) as u64, r.operations));
 }

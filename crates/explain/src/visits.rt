@@ -2,8 +2,12 @@
 use crate::text::print;
 use crate::text::print_column;
 use crate::text::print_number;
+use crate::text::print_plural;
+use camac::Transfer;
 use listfile::Instruction;
 use listfile::Sizes;
+use qmodes::QMode;
+use qmodes::ScanPosition;
 use walk::Counts;
 use walk::Turn;
 ghost use Prim.Native.Nat.{_^_, _<_, _≤_};
@@ -23,12 +27,19 @@ pub(crate) fn print_walk(list: &[u8], table: &[u16], sizes: Sizes)
         incoming: 0,
         outgoing: 0,
     };
-    print(b"\n   walk  operations at most        incoming mark        outgoing mark\n");
+    print(
+        b"\nwalk, with no block short\n number  operations at most        incoming mark        outgoing mark\n",
+    );
+    let mut seen = [false; 4096];
     while visits < count {
         let k = here.instruction;
         if count <= k {
             break;
         }
+        if seen[k] {
+            break;
+        }
+        seen[k] = true;
         let place = table[k];
         let turn = walk::turn_at(list, place, here, limit, sums);
         let Turn::To(next, after) = turn else {
@@ -37,7 +48,7 @@ pub(crate) fn print_walk(list: &[u8], table: &[u16], sizes: Sizes)
             return;
         };
         print_visit(k, sums, after);
-        print_pads(listfile::instruction_at(list, place), sums, after);
+        print_why(listfile::instruction_at(list, place), limit, sums, after);
         here = next;
         sums = after;
         visits += 1;
@@ -53,15 +64,49 @@ fn print_visit(k: usize, before: Counts, after: Counts) {
     print_marks(before.outgoing, after.outgoing);
 }
 
-// The pad that comes first where longwords follow a mark that is no multiple of 4.
-fn print_pads(i: Instruction, before: Counts, after: Counts) {
-    let longwords = is_of_longwords(i);
+// How a visit's share of W comes about, and the pad where longwords follow a mark that is no multiple of 4.
+fn print_why(i: Instruction, limit: u64, before: Counts, after: Counts) {
     let stored = (before.incoming < after.incoming) & (before.incoming % 4 == 2);
     let taken = (before.outgoing < after.outgoing) & (before.outgoing % 4 == 2);
-    if longwords & (stored | taken) {
+    if let Instruction::Camac(c) = i {
+        let t = c.transfer;
+        print_share(limit, t);
+    }
+    if is_of_longwords(i) & (stored | taken) {
         print(b"  2 pad bytes first");
     }
     print(b"\n");
+}
+
+// Words; in repeat with the tries of each; in scan the lesser of its positions and of its words with a miss at each station.
+fn print_share(limit: u64, t: Transfer) {
+    let q = camac::qmode_of(t);
+    let p = camac::position_of(t);
+    let n = camac::words_of(t);
+    print(b"  ");
+    match q {
+        QMode::Stop => print_plural(n, b" word", b" words"),
+        QMode::Ignore => print_plural(n, b" word", b" words"),
+        QMode::Repeat => {
+            print_plural(n, b" word, ", b" words, ");
+            print_plural(limit, b" try each", b" tries each");
+        }
+        QMode::Scan => {
+            print_plural(n, b" word less 1, and ", b" words less 1, and ");
+            print_plural(base::less(24, p.station as u64), b" station", b" stations");
+            print(b"; at most ");
+            print_number(positions_from(p));
+            print(b" positions");
+        }
+    }
+}
+
+// The positions of a scan from one on, up to subaddress 15 of station 23.
+fn positions_from(p: ScanPosition) -> u64 {
+    base::less(
+        384,
+        base::u64_of(p.station) * 16 + base::u64_of(p.subaddress),
+    )
 }
 
 fn is_of_longwords(i: Instruction) -> bool {

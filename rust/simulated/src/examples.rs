@@ -38,6 +38,7 @@ pub fn all() -> Vec<Example> {
         driven("setup", setup(), &thresholds(), (Fault::None, 0)),
         read("jump", jump()),
         read("refused", refused()),
+        read("endless", endless()),
         driven("parity", digitizer(), &[], (Fault::Tpe, 21)),
     ]
 }
@@ -157,5 +158,14 @@ fn refused() -> List {
     List::new(1)
         .single(at(SWITCHES, 0, 0).bits16())
         .single(at(24, 0, 0).bits16())
+        .halt()
+}
+
+/// A list whose last jump leads back: its walk comes to no halt.
+fn endless() -> List {
+    List::new(1)
+        .single(at(SWITCHES, 0, 0).bits16())
+        .single(at(SWITCHES, 1, 0).bits16())
+        .jump(1)
         .halt()
 }

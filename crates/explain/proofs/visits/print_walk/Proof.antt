@@ -10,10 +10,10 @@ use Rattle.explain.proofs.visits.print_walk.Statement.{statement}
 use Rattle.explain.proofs.visits.print_walk.Tie as tie
 
 abbrev Inv-loop : tie.InvT-loop
-Inv-loop list table count limit here₀ visits₀ sums₀ t15 here visits sums = (visits ≤ count) × SumsTo (2 ^ 48 * visits) sums
+Inv-loop list table count limit here₀ visits₀ sums₀ seen₀ t16 here visits sums seen = (visits ≤ count) × SumsTo (2 ^ 48 * visits) sums
 
 abbrev μ-loop : tie.MeasureT-loop
-μ-loop list table count limit here₀ visits₀ sums₀ t15 here visits sums = count - visits
+μ-loop list table count limit here₀ visits₀ sums₀ seen₀ t16 here visits sums seen = count - visits
 
 first-spot-requires : tie.Need-first-spot-requires Inv-loop μ-loop
 first-spot-requires c κs = search needs
@@ -27,6 +27,12 @@ print-requires c κs = search needs
 loop-holds : tie.Need-loop-holds Inv-loop μ-loop
 loop-holds c = search needs
 
+array-read-if2 : tie.Need-array-read-if2 Inv-loop μ-loop
+array-read-if2 c = search needs
+
+array-write-seen : tie.Need-array-write-seen Inv-loop μ-loop
+array-write-seen c = search needs
+
 mul-place : tie.Need-mul-place Inv-loop μ-loop
 mul-place c = search needs
 
@@ -35,12 +41,13 @@ shared-slice-read-place c = search needs
 
 turn-at-requires : tie.Need-turn-at-requires Inv-loop μ-loop
 turn-at-requires c κs =
-    let at-start = c .before .before .before .before .before .before .before .before .before in
-    let right = at-start .pre .1 .1 .1 in (
+    let at-start = c .before .before .before .before .before .before .before .before .before .before in
+    let right = at-start .pre .1 .1 .1 in
+    let below = c .before .before .if1 .left in (
       at-start .pre .1 .1 .0,
       (
-        subst (FieldPassed _) (sym (right .entry _ (c .before .if1 .left))) (right .passed _ (c .before .if1 .left)),
-        (omega arith, sums-more (omega arith) (c .before .before .before .loop .inv .1)),
+        subst (FieldPassed _) (sym (right .entry _ below)) (right .passed _ below),
+        (omega arith, sums-more (omega arith) (c .before .before .before .before .loop .inv .1)),
       ),
     )
 
@@ -68,8 +75,8 @@ print-visit-requires c κs = search needs
 instruction-at-requires : tie.Need-instruction-at-requires Inv-loop μ-loop
 instruction-at-requires c κs = search needs
 
-print-pads-requires : tie.Need-print-pads-requires Inv-loop μ-loop
-print-pads-requires c κs = search needs
+print-why-requires : tie.Need-print-why-requires Inv-loop μ-loop
+print-why-requires c κs = search needs
 
 add-visits : tie.Need-add-visits Inv-loop μ-loop
 add-visits c = search needs
@@ -80,7 +87,7 @@ loop-less c = search needs
 loop-again : tie.Need-loop-again Inv-loop μ-loop
 loop-again c =
     let at-turn = c .before .before .before .before in
-    let at-loop = at-turn .before .before .before .before .before .before in
+    let at-loop = at-turn .before .before .before .before .before .before .before in
     let at-start = at-loop .before .before .before .before .before .before in
     let turn = sym (at-turn .before .before .turn-at .ensures) ∙ at-turn .turn .given .1 in
     (omega arith, sums-more (omega arith) (turn-sums-to _ _ _ _ _ _ _ (at-start .pre .1 .1 .0) (words-few _ _ _ refl) (at-loop .loop .inv .1) turn))
@@ -101,6 +108,8 @@ print-walk-spec =
     slice-aggregate-print
     print-requires
     loop-holds
+    array-read-if2
+    array-write-seen
     mul-place
     shared-slice-read-place
     turn-at-requires
@@ -112,7 +121,7 @@ print-walk-spec =
     returns
     print-visit-requires
     instruction-at-requires
-    print-pads-requires
+    print-why-requires
     add-visits
     loop-less
     loop-again
