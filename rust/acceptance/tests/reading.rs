@@ -1,7 +1,12 @@
 //! What the documents cite exists; READING.md's tables are those that the definitions, the
-//! contracts and the edits give, and none of its rows lacks a cell.
+//! contracts and the edits give, and none of its rows lacks a cell; FIGURES.md's sizes are those
+//! of the tree.
 
-use acceptance::{files, printed, reading, repository};
+use acceptance::{files, printed, reading, repository, sizes};
+
+/// Prints the tables and the sizes anew.
+const COMMAND: &str =
+    "cargo run --release --manifest-path rust/Cargo.toml -p acceptance --bin tables";
 
 const DOCUMENTS: [&str; 7] = [
     "docs/MANUAL.md",
@@ -43,9 +48,23 @@ fn tables_are_as_printed() {
         .expect("READING.md");
     let differs = |lines: &(&str, &str)| lines.0 != lines.1;
     let first = stored.lines().zip(printed.lines()).find(differs);
-    let command = "cargo run --release --manifest-path rust/Cargo.toml -p acceptance --bin tables";
     assert!(
         stored == printed,
-        "docs/READING.md is not as `{command}` prints it: {first:#?}"
+        "docs/READING.md is not as `{COMMAND}` prints it: {first:#?}"
+    );
+}
+
+/// Every crate and package has its row. A size moves with each line that is written, so that
+/// large ones may be a tenth off.
+#[test]
+fn sizes_are_near_those_printed() {
+    let (stored, printed) = printed::SIZES
+        .both(&repository::root())
+        .expect("FIGURES.md");
+    let far = |lines: &(&str, &str)| !sizes::are_near(lines.0, lines.1);
+    let first = stored.lines().zip(printed.lines()).find(far);
+    assert!(
+        first.is_none() && stored.lines().count() == printed.lines().count(),
+        "docs/FIGURES.md is far from what `{COMMAND}` prints: {first:#?}"
     );
 }

@@ -1,5 +1,9 @@
 //! Writing replies.
 
+use crate::list::List;
+use crate::refusal::Refusal;
+use crate::run::run;
+
 /// A reply of the highway to one operation: eight bytes.
 ///
 /// ```
@@ -30,6 +34,22 @@ impl Reply {
 
     pub fn no_sync() -> Reply {
         Reply::kind(3)
+    }
+
+    /// The reply of eight bytes that a highway brought, where they are well formed. The engine
+    /// says so, at the cost of a small admission.
+    ///
+    /// ```
+    /// use camlist::{Reason, Reply};
+    ///
+    /// assert_eq!(Reply::from_bytes([0, 3, 0, 0, 7, 0, 0, 0]), Ok(Reply::answer(7)));
+    /// let refusal = Reply::from_bytes([1, 3, 0, 0, 0, 0, 0, 0]).unwrap_err();
+    /// assert_eq!(refusal.reason, Reason::Reply);
+    /// ```
+    pub fn from_bytes(bytes: [u8; 8]) -> Result<Reply, Refusal> {
+        // A run that halts at once takes no reply, but checks its row.
+        run(&List::new(1).halt(), &mut [], &[], &bytes)?;
+        Ok(Reply(bytes))
     }
 
     /// Q = 0, which closes a stop block. This and the flags below are for answers.

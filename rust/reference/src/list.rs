@@ -104,7 +104,7 @@ fn first_field(field: &Field) -> Result<u64, Refusal> {
 
 /// A later field's instruction. "3: unknown tag, or 01h again." "4: length wrong for its
 /// tag."
-fn instruction(field: &Field) -> Result<Instruction, Refusal> {
+pub fn instruction(field: &Field) -> Result<Instruction, Refusal> {
     match (field.tag, field.body.len()) {
         (0x10, 4 | 8) => camac(field),
         (0x20, 2) => Ok(Instruction::Jump(usize::from(halfword(field.body)))),

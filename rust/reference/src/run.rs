@@ -213,7 +213,7 @@ fn check_run(
 }
 
 /// The record of a start that isn't refused.
-pub(crate) fn begin(admitted: &Admitted, incoming: &mut [u8]) -> Record {
+pub fn begin(admitted: &Admitted, incoming: &mut [u8]) -> Record {
     go_on(&admitted.list, Record::default(), 0, incoming)
 }
 
@@ -262,12 +262,7 @@ fn end(record: Record, code: u8) -> Record {
 }
 
 /// Takes one reply: "An operation counts when its reply is taken." The record fits.
-pub(crate) fn take(
-    admitted: &Admitted,
-    record: &Record,
-    incoming: &mut [u8],
-    reply: &Reply,
-) -> Record {
+pub fn take(admitted: &Admitted, record: &Record, incoming: &mut [u8], reply: &Reply) -> Record {
     let mut record = *record;
     record.operations += 1;
     // "kind 3 Dh; kind 2 Ch; kind 1 Bh"; "Kinds 1 to 3 bring their own cause only."
@@ -479,7 +474,7 @@ fn stored(size: WordSize, response: &Response) -> u32 {
 
 /// The operation wanted next: its data "is the outgoing word that a write takes from its
 /// mark on, or the inline word, else zero".
-pub(crate) fn wanted(admitted: &Admitted, record: &Record, outgoing: &[u8]) -> Operation {
+pub fn wanted(admitted: &Admitted, record: &Record, outgoing: &[u8]) -> Operation {
     if record.ended {
         return Operation::default();
     }

@@ -105,28 +105,8 @@ mod adapter {
     impl Crate {
         /// Makes an operation that the engine wants.
         pub fn reply_to(&mut self, wanted: camlist::Operation) -> Reply {
-            let [kind, flags, _, _, low, middle, high, _] = self.operate(wanted.into());
-            match kind {
-                0 => answer(flags, u32::from_le_bytes([low, middle, high, 0])),
-                1 => Reply::timeout(),
-                2 => Reply::not_recognised(),
-                _ => Reply::no_sync(),
-            }
+            let bytes = self.operate(wanted.into());
+            Reply::from_bytes(bytes).expect("the crate's replies are well formed")
         }
-    }
-
-    type Change = fn(Reply) -> Reply;
-
-    fn answer(flags: u8, data: u32) -> Reply {
-        let changes: [(bool, Change); 6] = [
-            (flags & 1 == 0, Reply::no_q),
-            (flags & 2 == 0, Reply::no_x),
-            (flags & 4 != 0, Reply::err),
-            (flags & 8 != 0, Reply::derr),
-            (flags & 16 != 0, Reply::tpe),
-            (flags & 32 != 0, Reply::lpe),
-        ];
-        let met = changes.iter().filter(|(is_met, _)| *is_met);
-        met.fold(Reply::answer(data), |reply, (_, change)| change(reply))
     }
 }
