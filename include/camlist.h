@@ -54,8 +54,9 @@ extern "C" {
 #define camlist_demand_take camlist_demand_take_v2
 #define camlist_demand_clear camlist_demand_clear_v2
 
-/* An answer is here the array that a call writes; where Q, X or a reply is spoken of, it is a crate's reply of kind 0, as camlist_put_answer puts.
-   Every answer of a call begins with these two. After a refusal the numbers behind them are 0, but for a refused run's record, which has ended. */
+/* An answer is one of two things: the numbers that a call writes into its array `answer`, or, where Q, X, flags or words of an answer are meant, a
+   crate's reply of kind 0. Every answer of a call begins with these two. After a refusal the numbers behind them are 0, but for a refused run's
+   record, which has ended. */
 #define CAMLIST_NUMBER 0 /* 0 not refused, else the refusal */
 #define CAMLIST_PLACE 1  /* offset in the list of the refused field's first byte; of refusal 32 that of the longword in its row; else 0 */
 
@@ -183,7 +184,8 @@ void camlist_admit(const uint8_t *list, size_t list_len, uint64_t incoming_len, 
                    uint64_t answer[CAMLIST_ADMIT_NUMBERS]);
 
 /* Starts a run: to its first operation or its end. Refused, it leaves `incoming` as it is and a record that has ended with status 0, so that its code
-   reads 0, as after a halt. So look at answer[CAMLIST_NUMBER] first: if it is not 0, number and place say why and the code says nothing. */
+   reads 0, as after a halt. So look at answer[CAMLIST_NUMBER] first: if it is not 0, number and place say why, and the record's code says
+   nothing. */
 void camlist_start(const uint8_t *list, size_t list_len, uint8_t *incoming, size_t incoming_len, const uint8_t *outgoing, size_t outgoing_len,
                    uint64_t record[CAMLIST_RECORD_NUMBERS], uint64_t answer[CAMLIST_CALL_NUMBERS]);
 
