@@ -1,8 +1,7 @@
 /*
- * The crate list engine for hosts in C and C++. Lists, replies, packing, status and refusals are those of document 01, "The crate list engine",
- * with enhanced blocks and the list sequencer (document 02, E1), with runs that a damaged command ends (E4), with stop blocks that Q = 0 closes
- * (E8), with Q and X in the longwords of 24-bit words (E9), with decimal scalers converted to binary and back (E10), and with demands kept beside
- * the run (E2).
+ * The crate list engine for hosts in C and C++. docs/MANUAL.md has the rules: lists, replies, packing, status, refusals, and what an adapter does.
+ * examples/c/drive.c is the shortest host, and examples/crate is a simulated crate to try one on. The rules are document 01's with requests E1, E2,
+ * E3, E4, E8, E9 and E10 of document 02.
  * Link libhost.a, which `rt staticlib host` makes for x86-64 Linux; every function that is declared and not defined here is proved.
  *
  * Which call. camlist_admit says whether a list is well formed and what it can need. A host that drives a crate calls camlist_start, makes the
@@ -55,7 +54,9 @@ extern "C" {
 #define camlist_demand_take camlist_demand_take_v2
 #define camlist_demand_clear camlist_demand_clear_v2
 
-/* Every answer begins with these two. After a refusal the numbers behind them are 0, but for a refused run's record, which has ended. */
+/* An answer is one of two things: the numbers that a call writes into its array `answer`, or, where Q, X, flags or words of an answer are meant, a
+   crate's reply of kind 0. Every answer of a call begins with these two. After a refusal the numbers behind them are 0, but for a refused run's
+   record, which has ended. */
 #define CAMLIST_NUMBER 0 /* 0 not refused, else the refusal */
 #define CAMLIST_PLACE 1  /* offset in the list of the refused field's first byte; of refusal 32 that of the longword in its row; else 0 */
 
@@ -66,8 +67,9 @@ extern "C" {
 #define CAMLIST_ADMIT_NUMBERS 5
 
 /* The numbers of the answers of camlist_start and camlist_step: the operation wanted next. All six are 0 once the run has ended.
-   An enhanced operation is one word of an enhanced block, by enhanced messages. Enhanced with F 12 is the list sequencer: A 0 and 1 read, A 2 and 3
-   write, although F 12 else is control. */
+   An enhanced operation is one word of an enhanced block, by enhanced messages: such a message makes many operations in its crate, a standard one
+   makes one. An adapter or crate controller without them cannot run lists with transfer mode 2. No refusal and no reply says so: look for mode 2
+   before camlist_start. Enhanced with F 12 is the list sequencer: A 0 and 1 read, A 2 and 3 write, although F 12 else is control. */
 #define CAMLIST_CALL_CRATE 2
 #define CAMLIST_CALL_N 3 /* station */
 #define CAMLIST_CALL_A 4 /* subaddress */
@@ -176,11 +178,14 @@ extern "C" {
 
 /* The calls -------------------------------------------------------------------------------------------------------------------------------- */
 
-/* Whether the list is well formed and fits buffers of these two lengths, which need not exist, and what it can need at most. */
+/* Whether the list is well formed and fits buffers of these two lengths, which need not exist, and what it can need at most. With UINT64_MAX for both
+   lengths no buffer is too short. */
 void camlist_admit(const uint8_t *list, size_t list_len, uint64_t incoming_len, uint64_t outgoing_len,
                    uint64_t answer[CAMLIST_ADMIT_NUMBERS]);
 
-/* Starts a run: to its first operation or its end. Refused, it leaves `incoming` as it is and a record that has ended. */
+/* Starts a run: to its first operation or its end. Refused, it leaves `incoming` as it is and a record that has ended with status 0, so that its code
+   reads 0, as after a halt. So look at answer[CAMLIST_NUMBER] first: if it is not 0, number and place say why, and the record's code says
+   nothing. */
 void camlist_start(const uint8_t *list, size_t list_len, uint8_t *incoming, size_t incoming_len, const uint8_t *outgoing, size_t outgoing_len,
                    uint64_t record[CAMLIST_RECORD_NUMBERS], uint64_t answer[CAMLIST_CALL_NUMBERS]);
 
@@ -194,7 +199,7 @@ void camlist_steps(const uint8_t *list, size_t list_len, uint64_t record[CAMLIST
                    const uint8_t *outgoing, size_t outgoing_len, const uint8_t *replies, size_t replies_len,
                    uint64_t answer[CAMLIST_STEPS_NUMBERS]);
 
-/* Starts a run and takes replies until it ends or they run out. Refused, it leaves `incoming` as it is. */
+/* Starts a run and takes replies until it ends or they run out. Refused, it leaves `incoming` as it is, and its record is that of a refused start. */
 void camlist_run(const uint8_t *list, size_t list_len, uint8_t *incoming, size_t incoming_len, const uint8_t *outgoing, size_t outgoing_len,
                  const uint8_t *replies, size_t replies_len, uint64_t answer[CAMLIST_RUN_NUMBERS]);
 
@@ -316,6 +321,7 @@ static inline int camlist_word_x(uint32_t longword)
 
 /* Bytes of yours and how many of them are used. Each camlist_put_.. below puts its bytes behind those and returns 1, or puts nothing and returns 0:
    where they have no room, where a part is too wide for its bits, and once one has failed. So a whole list may be put and `failed` looked at once.
+   Only widths are asked here; whether a list is right, camlist_admit says.
    Begin with: camlist_bytes list = {room, sizeof room, 0, 0}; then list.bytes and list.length are what the calls take. */
 typedef struct camlist_bytes {
     uint8_t *bytes;
