@@ -18,8 +18,8 @@ struct Changing {
     changes: BTreeSet<String>,
 }
 
-/// The crate of equations that are computed: its pages have no rule.
-const COMPUTED: &str = "equations";
+/// The pages of equations that are computed: they are no rules, and use every definition.
+const COMPUTED: &str = "equations/";
 
 /// What the tables are made of.
 pub struct Tree {
@@ -139,8 +139,7 @@ impl Tree {
             laws: Vec::new(),
             edits: Vec::new(),
         };
-        let mut listed = repository::listed(root)?;
-        listed.retain(|c| c.name != COMPUTED);
+        let listed = repository::listed(root)?;
         for c in &listed {
             let pages = pages::of_crate(root, &c.name)?;
             let proofs = root.join("crates").join(&c.name).join("proofs");
@@ -197,8 +196,10 @@ impl Tree {
 
     /// The definitions that use one of these; those that describe code only where no other does.
     fn users_of(&self, definitions: &BTreeSet<&str>) -> Vec<&str> {
-        let is_other =
-            |item: &&Item| item.owner.is_none() && !definitions.contains(item.name.as_str());
+        let is_other = |item: &&Item| {
+            let is_computed = item.name.starts_with(COMPUTED);
+            item.owner.is_none() && !is_computed && !definitions.contains(item.name.as_str())
+        };
         let found = self.items().filter(is_other);
         let found = found.filter(|item| cites(item, definitions));
         let (models, users): (Vec<&str>, Vec<&str>) = found
@@ -291,7 +292,8 @@ impl Tree {
     /// each comment with quotations; then the edits of which no row tells.
     pub fn rules(&self) -> String {
         let mut text = String::new();
-        for page in self.pages.iter().filter(|page| !page.rules.is_empty()) {
+        let has_rules = |page: &&Page| !page.rules.is_empty() && !page.path.starts_with(COMPUTED);
+        for page in self.pages.iter().filter(has_rules) {
             text += &format!("\n### `{}`\n\n{}\n\n", page.path, page.subject);
             text += "| Words | Definition | Code | Edits |\n|---|---|---|---|\n";
             for rule in &page.rules {
