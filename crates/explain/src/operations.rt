@@ -16,8 +16,8 @@ use reply::Record;
 // Above the offset of every byte of a buffer.
 const MOST: u64 = 65536;
 
-// An operation and its reply: the operation's number and instruction, the reply's kind, flags and data, whether a word was moved, behind a pad or not, its
-// first byte and its last, and the code with which the run ended there, 0 where it did not or by a halt.
+// An operation and its reply: the operation's number and instruction; the reply's kind, flags and data; whether a word was moved, behind a pad or not,
+// its first byte and its last; the code with which the run ended there, 0 where it did not or by a halt.
 pub(crate) struct Event {
     pub number: u64,
     pub instruction: usize,

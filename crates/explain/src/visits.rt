@@ -14,6 +14,9 @@ ghost use Prim.Native.Nat.{_^_, _<_, _≤_};
 ghost use lib.ListN.{length};
 ghost use Rattle.listfile.specs.model.Table.{TableRight};
 
+const HEADS: [u8; 97] =
+    *b"\nwalk, with no block short\n number  operations at most        incoming mark        outgoing mark\n";
+
 // Every visit of a list that passed 1 to 10.
 pub(crate) fn print_walk(list: &[u8], table: &[u16], sizes: Sizes)
     requires { ⌜ (sizes .count ≤ length (now table)) × ((sizes .count ≤ 4096) × ((sizes .limit < 2 ^ 16) × TableRight (now list) (now table) (sizes .count))) ⌝ }
@@ -27,9 +30,7 @@ pub(crate) fn print_walk(list: &[u8], table: &[u16], sizes: Sizes)
         incoming: 0,
         outgoing: 0,
     };
-    print(
-        b"\nwalk, with no block short\n number  operations at most        incoming mark        outgoing mark\n",
-    );
+    print(&HEADS);
     let mut seen = [false; 4096];
     while visits < count {
         let k = here.instruction;
