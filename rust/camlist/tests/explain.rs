@@ -125,30 +125,14 @@ fn wanted_events() -> Met {
     events.add_all(effects.map(|effect| format!("{effect:?}")));
     events.add_all(["waits", "1 behind the end", "several behind the end"]);
     events.add("operations in one line");
-    events.add_all(wanted_new_events().0);
+    events.add_all(wanted_place_events().0);
+    events.add_all(wanted_walk_events().0);
     events
 }
 
-/// What comes up with walks, refused fields, places of words, and buffers.
-fn wanted_new_events() -> Met {
+/// What comes up with refused fields, places of words, and buffers.
+fn wanted_place_events() -> Met {
     let mut events = Met::default();
-    events.add_all([
-        "a walk again",
-        "again at 0",
-        "again behind 0",
-        "again at once",
-    ]);
-    events.add("a walk past the last field");
-    events.add_all(["words", "1 word", "tries", "1 try", "no share"]);
-    events.add_all([
-        "scan by words",
-        "scan by positions",
-        "1 station",
-        "1 position",
-    ]);
-    for what in ["read", "write", "literal"] {
-        events.add(format!("a pad before a {what}"));
-    }
     for effect in ["Stored", "StoredWithQAndX", "Taken"] {
         events.add_all(["in one line", "then the run ends"].map(|how| format!("{effect}, {how}")));
     }
@@ -171,6 +155,27 @@ fn wanted_new_events() -> Met {
     for name in FILES {
         events.add_all(["full", "not full"].map(|how| format!("{name} {how}")));
     }
+    events
+}
+
+/// What comes up with walks.
+fn wanted_walk_events() -> Met {
+    let mut events = Met::default();
+    events.add_all([
+        "a walk again",
+        "again at 0",
+        "again behind 0",
+        "again at once",
+    ]);
+    events.add("a walk past the last field");
+    events.add_all(["words", "1 word", "tries", "1 try", "no share"]);
+    events.add_all([
+        "scan by words",
+        "scan by positions",
+        "1 station",
+        "1 position",
+    ]);
+    events.add_all(["read", "write", "literal"].map(|what| format!("a pad before a {what}")));
     events
 }
 
@@ -708,7 +713,8 @@ fn damaged() -> Vec<Files> {
         one(&double(0x0200_0120, 0xFFFF_0000)),
         one(&single(0x0210_0102)),
     ];
-    let mut cases: Vec<Files> = lists.map(|list| [list, vec![], vec![]]).to_vec();
+    let lists = lists.into_iter().chain(refused_fields()).chain(endless());
+    let mut cases: Vec<Files> = lists.map(|list| [list, vec![], vec![]]).collect();
     let word = one(&single(0x0200_0102));
     for place in 0..16 {
         let mut row = ok(3).repeat(2);
@@ -717,4 +723,33 @@ fn damaged() -> Vec<Files> {
     }
     cases.push([word, ok(3)[..5].to_vec(), vec![]]);
     cases
+}
+
+/// CAMAC fields that 6 to 9 refuse, with a count, with data, and of 4 bytes.
+fn refused_fields() -> Vec<Vec<u8>> {
+    let mut lists = Vec::new();
+    for (data, read, write) in [(6, 0x8200_0100, 0x8210_0100), (7, 0x3000_0100, 0x3010_0100)] {
+        for size in [0, 2] {
+            lists.push(one(&single(read | size)));
+            lists.push(one(&double(read | size | 0x20, 2_u32.wrapping_neg())));
+            lists.push(one(&double(write | size | 0x60, data)));
+        }
+    }
+    lists.push(one(&double(0x0200_0162, 5)));
+    lists.push(one(&double(0x0200_0178, 0xFEDC_BA98)));
+    lists.push(one(&double(0x0200_0120, 1_u32.wrapping_neg())));
+    lists.push(one(&double(0x0200_0122, 0)));
+    lists
+}
+
+/// Walks that repeat, at an instruction that is not the first.
+fn endless() -> [Vec<u8>; 3] {
+    let word = single(0x0200_0102);
+    [
+        list(&format!("{word} 20 02 00 01 00 {HALT}")),
+        list(&format!("{word} {word} 20 02 00 01 00 {HALT}")),
+        list(&format!(
+            "{word} 20 02 00 03 00 {HALT} {word} 20 02 00 01 00"
+        )),
+    ]
 }
