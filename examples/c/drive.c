@@ -118,6 +118,10 @@ static void drive(struct run *run)
                answer[CAMLIST_CALL_ENHANCED] ? ", enhanced" : "");
         step(run, reply, answer);
     }
+    if (answer[CAMLIST_NUMBER] != CAMLIST_NOT_REFUSED) {
+        print_refusal("run", answer);
+        return;
+    }
     print_record(run->record);
     for (uint64_t at = 0; at < run->record[CAMLIST_RECORD_INCOMING_MARK]; at++) {
         printf("%02X%s", run->incoming[at], at + 1 < run->record[CAMLIST_RECORD_INCOMING_MARK] ? " " : "\n");

@@ -15,25 +15,27 @@ mod line;
 mod told;
 
 use camlist::Reason;
-use explained::{Effect, End, Ends, Explained, Field, Last, Moves, Refused, Rule, Run};
-use explained::{Said, Stretch, Visit, Walk, WalkEnd};
+use explained::{Effect, End, Ends, Explained, Field, Last, Moves, Parts, Place, Refused, Rule};
+use explained::{Run, Said, Second, Share, Stretch, Visit, Walk, WalkEnd};
 use files::Files;
 use folder::{program, Folder};
 use reference::camrun::MOST_BYTES;
 use reference::cases::by_hand::*;
 use reference::list::{self, FieldReader, Instruction};
 use reference::names::code_name;
-use reference::packing;
 use reference::reply;
 use reference::status;
-use reference::walk::{admission, most_operations, Admitted, Marks};
+use reference::walk::{admission, Admitted};
+use reference::words::WordSize;
 use reference::{last_moved, Record, Refusal};
 use std::collections::BTreeSet;
 use std::thread;
 use told::{Event, Ran};
 
-/// The most bytes that are shown of the incoming buffer.
+/// The most bytes that are shown of a buffer.
 const SHOWN: usize = 40;
+
+const FILES: [&str; 3] = ["run.lst", "run.rep", "run.out"];
 
 const RANDOM_CASES: u64 = 1_000;
 
@@ -71,7 +73,7 @@ impl Drop for Case {
 fn explanations() {
     let (program, folder) = (program("EXPLAIN", "explain"), Folder::new("explain"));
     let mut met = Met::default();
-    let made = by_hand().into_iter().chain(damaged());
+    let made = by_hand().into_iter().chain(damaged()).chain(placed());
     let cases = files::papers()
         .chain(files::random(RANDOM_CASES))
         .chain(files::long());
@@ -114,17 +116,66 @@ fn wanted_events() -> Met {
         Effect::Closed,
         Effect::TriedAgain,
         Effect::NextStation,
-        Effect::Ends,
-        Effect::MovedThenEnds,
+        Effect::Nothing,
     ];
     let mut events = wanted_field_events();
     events.add_all(refusals.map(|number| format!("refused {number}")));
     events.add_all(codes.map(|code| format!("code {code}")));
     events.add_all(bits.map(|bit| format!("bit {bit}")));
     events.add_all(effects.map(|effect| format!("{effect:?}")));
-    events.add_all(["a pad", "a walk again", "a walk past the last field"]);
     events.add_all(["waits", "1 behind the end", "several behind the end"]);
-    events.add_all(["operations in one line", "more bytes"]);
+    events.add("operations in one line");
+    events.add_all(wanted_place_events().0);
+    events.add_all(wanted_walk_events().0);
+    events
+}
+
+/// What comes up with refused fields, places of words, and buffers.
+fn wanted_place_events() -> Met {
+    let mut events = Met::default();
+    for effect in ["Stored", "StoredWithQAndX", "Taken"] {
+        events.add_all(["in one line", "then the run ends"].map(|how| format!("{effect}, {how}")));
+    }
+    events.add_all(["StoredWithQAndX, behind a pad", "Taken, behind a pad"]);
+    for number in 6..=9 {
+        let seconds: &[&str] = match number {
+            9 => &["count", "data"],
+            _ => &["none", "count", "data"],
+        };
+        events.add_all(
+            seconds
+                .iter()
+                .map(|second| format!("{number}, second {second}")),
+        );
+    }
+    events.add_all([16, 24].map(|bits| format!("refused field of {bits} bits")));
+    for buffer in ["incoming", "outgoing"] {
+        events.add_all(["none", "some", "40", "more"].map(|bytes| format!("{buffer} {bytes}")));
+    }
+    for name in FILES {
+        events.add_all(["full", "not full"].map(|how| format!("{name} {how}")));
+    }
+    events
+}
+
+/// What comes up with walks.
+fn wanted_walk_events() -> Met {
+    let mut events = Met::default();
+    events.add_all([
+        "a walk again",
+        "again at 0",
+        "again behind 0",
+        "again at once",
+    ]);
+    events.add("a walk past the last field");
+    events.add_all(["words", "1 word", "tries", "1 try", "no share"]);
+    events.add_all([
+        "scan by words",
+        "scan by positions",
+        "1 station",
+        "1 position",
+    ]);
+    events.add_all(["read", "write", "literal"].map(|what| format!("a pad before a {what}")));
     events
 }
 
@@ -170,6 +221,12 @@ fn compare(case: &Case, met: &mut Met) {
     let [list, row, outgoing] =
         [list, row, outgoing].map(|file| &file[..file.len().min(MOST_BYTES)]);
     let said = explained::read(&case.text);
+    let full = [list, row, outgoing].map(|file| file.len() == MOST_BYTES);
+    assert_eq!(said.full, full, "files that fill their buffers");
+    met.add_all(FILES.iter().zip(full).map(|(name, is_full)| {
+        let how = if is_full { "full" } else { "not full" };
+        format!("{name} {how}")
+    }));
     assert_eq!(said.size, list.len() as u64);
     let read = list::read(list);
     compare_fields(list, read.as_ref().err(), &said, met);
@@ -218,94 +275,116 @@ fn compare_fields(list: &[u8], refusal: Option<&Refusal>, said: &Explained, met:
     match refusal {
         Some(refusal) if refusal.number >= 6 => {
             let wrong = fields.next().expect("the refused field");
-            compare_wrong(&list[refusal.place..], refusal.place, number, wrong);
+            assert_eq!([wrong.place, wrong.number], [refusal.place as u64, number]);
+            compare_wrong(&list[refusal.place..], refusal.number, wrong, met);
         }
         _ => {}
     }
     assert!(fields.next().is_none(), "fields behind the last");
 }
 
-/// A field that 6 to 9 refuses is shown by its bits.
-fn compare_wrong(field: &[u8], place: usize, number: u64, shown: &Field) {
-    let first = u32::from_le_bytes([field[3], field[4], field[5], field[6]]);
-    let bits = |low: u32, count: u32| u64::from(first >> low & ((1 << count) - 1));
-    let Said::Camac(command) = &shown.said else {
-        panic!("a CAMAC field");
+/// A field that 6 to 9 refuses is shown by its parts.
+fn compare_wrong(field: &[u8], refusal: u8, shown: &Field, met: &mut Met) {
+    let Said::Refused(parts) = &shown.said else {
+        panic!("a refused field: {:?}", shown.said);
     };
-    assert_eq!([shown.place, shown.number], [place as u64, number]);
-    let address = &command.address;
-    let address = [
-        address.crate_number,
-        address.station,
-        address.subaddress,
-        address.function,
-    ];
-    assert_eq!(address, [bits(8, 6), bits(25, 5), bits(21, 4), bits(16, 5)]);
-    assert_eq!(command.abort_disable, bits(0, 1) == 1);
+    assert_eq!(parts, &told::parts(field));
+    met.add_all(part_events(refusal, parts));
 }
 
-/// Every visit, as far as it is shown.
+fn part_events(refusal: u8, parts: &Parts) -> [String; 2] {
+    let second = match parts.second {
+        None => "none",
+        Some(Second::Count(_)) => "count",
+        Some(Second::Data(_)) => "data",
+    };
+    let bits = match parts.size {
+        WordSize::Bits16 => 16,
+        WordSize::Bits24 => 24,
+    };
+    [
+        format!("{refusal}, second {second}"),
+        format!("refused field of {bits} bits"),
+    ]
+}
+
+/// Every visit, none of an instruction that was visited, and where the walk ends.
 fn compare_walk(list: &list::List, walk: &Walk, met: &mut Met) {
-    let mut number = 0;
-    let mut marks = Marks::default();
+    let mut visited = BTreeSet::new();
     for visit in &walk.visits {
-        let instruction = &list.instructions[number];
-        let after = marks.after(instruction);
-        let expected = Visit {
-            instruction: number as u64,
-            operations: most_operations(list, number),
-            incoming: [marks.incoming, after.incoming],
-            outgoing: [marks.outgoing, after.outgoing],
-            has_pad: has_pad(instruction, marks),
-        };
-        assert_eq!(visit, &expected);
-        if visit.has_pad {
-            met.add("a pad");
-        }
-        number = match instruction {
-            Instruction::Jump(target) => *target,
-            Instruction::Halt => panic!("a walk that goes on behind its halt"),
-            _ => number + 1,
-        };
-        marks = after;
+        let is_new = visited.insert(visit.instruction);
+        assert!(is_new, "instruction {} is told twice", visit.instruction);
     }
-    compare_walk_end(list, walk, number, met);
-}
-
-fn compare_walk_end(list: &list::List, walk: &Walk, number: usize, met: &mut Met) {
-    let was_met = walk
-        .visits
-        .iter()
-        .any(|visit| visit.instruction == number as u64);
-    let end = match list.instructions.get(number) {
-        None => WalkEnd::Passes,
-        Some(Instruction::Halt) => WalkEnd::Halt(number as u64),
-        Some(_) => WalkEnd::Again(number as u64),
-    };
-    assert_eq!(walk.end, end);
-    match end {
+    let expected = told::walk(list);
+    for (visit, expected) in walk.visits.iter().zip(&expected.visits) {
+        assert_eq!(visit, expected);
+        let instruction = &list.instructions[visit.instruction as usize];
+        met.add_all(visit_events(visit, instruction));
+    }
+    assert_eq!(walk.visits.len(), expected.visits.len(), "visits");
+    assert_eq!(walk.end, expected.end);
+    match walk.end {
         WalkEnd::Halt(_) => {}
-        WalkEnd::Again(_) => {
-            assert!(was_met, "instruction {number} comes for the first time");
-            met.add("a walk again");
+        WalkEnd::Again(number) => {
+            assert!(visited.contains(&number), "{number} comes the first time");
+            met.add_all(again_events(number, walk));
         }
         WalkEnd::Passes => met.add("a walk past the last field"),
     }
 }
 
-/// Whether the first word of an instruction has a pad before it.
-fn has_pad(instruction: &Instruction, marks: Marks) -> bool {
-    let pads = |mark: u64, length: u64| packing::offset(mark, length) > mark;
-    match instruction {
-        Instruction::Camac(camac) => {
-            let (after, length) = (marks.after(instruction), camac.size.bytes());
-            let stores = after.incoming > marks.incoming && pads(marks.incoming, length);
-            let takes = after.outgoing > marks.outgoing && pads(marks.outgoing, length);
-            stores || takes
-        }
-        Instruction::Literal(_) => pads(marks.incoming, packing::LITERAL_BYTES),
-        Instruction::Jump(_) | Instruction::Halt => false,
+fn again_events(number: u64, walk: &Walk) -> Vec<&'static str> {
+    let last = walk.visits.last().map(|visit| visit.instruction);
+    let mut events = vec!["a walk again"];
+    events.push(if number == 0 {
+        "again at 0"
+    } else {
+        "again behind 0"
+    });
+    if last == Some(number) {
+        events.push("again at once");
     }
+    events
+}
+
+/// What comes up with a visit.
+fn visit_events(visit: &Visit, instruction: &Instruction) -> Vec<&'static str> {
+    let mut events = match visit.share {
+        None => vec!["no share"],
+        Some(Share::Words(1)) => vec!["1 word"],
+        Some(Share::Words(_)) => vec!["words"],
+        Some(Share::Repeat { tries: 1, .. }) => vec!["1 try"],
+        Some(Share::Repeat { .. }) => vec!["tries"],
+        Some(Share::Scan {
+            stations,
+            positions,
+            ..
+        }) => scan_events(visit.operations, stations, positions),
+    };
+    if visit.has_pad {
+        events.push(match instruction {
+            Instruction::Literal(_) => "a pad before a literal",
+            _ if visit.incoming[0] < visit.incoming[1] => "a pad before a read",
+            _ => "a pad before a write",
+        });
+    }
+    events
+}
+
+fn scan_events(operations: u64, stations: u64, positions: u64) -> Vec<&'static str> {
+    let by_positions = operations == positions;
+    let mut events = vec![if by_positions {
+        "scan by positions"
+    } else {
+        "scan by words"
+    }];
+    if stations == 1 {
+        events.push("1 station");
+    }
+    if positions == 1 {
+        events.push("1 position");
+    }
+    events
 }
 
 /// W, B and O, which are also the sum and the last marks of the walk.
@@ -402,10 +481,7 @@ fn compare_stretches(events: &[Event], stretches: &[Stretch], met: &mut Met) {
         assert!(stretch.first <= stretch.last && stretch.last <= events.len() as u64);
         let own = &events[told as usize..stretch.last as usize];
         compare_stretch(own, stretch);
-        met.add(format!("{:?}", stretch.effect));
-        if own.len() > 1 {
-            met.add("operations in one line");
-        }
+        met.add_all(stretch_events(stretch));
         told = stretch.last;
     }
     assert_eq!(told, events.len() as u64, "operations told");
@@ -414,9 +490,8 @@ fn compare_stretches(events: &[Event], stretches: &[Stretch], met: &mut Met) {
             unreachable!()
         };
         let is_like = before.instruction == after.instruction && before.reply == after.reply;
-        let ends = matches!(after.effect, Effect::Ends | Effect::MovedThenEnds);
         assert!(
-            ends || !is_like,
+            after.ends || !is_like,
             "operation {}: two lines for one",
             after.first
         );
@@ -430,8 +505,11 @@ fn compare_stretch(events: &[Event], said: &Stretch) {
         assert_eq!(said.instruction, event.instruction, "operation {at}");
         assert_eq!(said.function, event.function, "operation {at}");
         assert_eq!(said.reply, event.reply, "operation {at}");
+        assert_eq!(said.crate_number, event.crate_number, "operation {at}");
         assert_eq!(said.effect, event.effect, "operation {at}");
+        assert_eq!(said.ends, event.ends, "operation {at}");
     }
+    assert_eq!(said.place, place(events), "operation {at}");
     assert_eq!(said.from, first.position, "operation {at}");
     let to = (last.position != first.position).then_some(last.position);
     assert_eq!(said.to, to, "operation {at}");
@@ -444,6 +522,36 @@ fn compare_stretch(events: &[Event], said: &Stretch) {
     };
     assert_eq!(said.written, ends(|event| event.written), "operation {at}");
     assert_eq!(said.read, ends(|event| event.read), "operation {at}");
+}
+
+/// The place of the words of some operations, each of them next to the one before it.
+fn place(events: &[Event]) -> Option<Place> {
+    for pair in events.windows(2) {
+        if let (Some(before), Some(after)) = (pair[0].place, pair[1].place) {
+            assert_eq!(after.from, before.to + 1, "words that are apart");
+        }
+    }
+    let (first, last) = (events.first()?.place, events.last()?.place);
+    assert_eq!(first.is_some(), last.is_some());
+    let to = last?.to;
+    first.map(|first| Place { to, ..first })
+}
+
+/// What comes up with a line of operations.
+fn stretch_events(said: &Stretch) -> Vec<String> {
+    let effect = said.effect;
+    let mut events = vec![format!("{effect:?}")];
+    if said.last > said.first {
+        events.push(String::from("operations in one line"));
+        events.push(format!("{effect:?}, in one line"));
+    }
+    if said.ends {
+        events.push(format!("{effect:?}, then the run ends"));
+    }
+    if said.place.is_some_and(|place| place.behind_pad) {
+        events.push(format!("{effect:?}, behind a pad"));
+    }
+    events
 }
 
 fn compare_end(ran: &Ran, said: &End, met: &mut Met) {
@@ -492,7 +600,7 @@ fn compare_counts(admitted: &Admitted, record: &Record, said: &Run, met: &mut Me
     met.add_all(set.iter().map(|(bit, _)| format!("bit {bit}")));
 }
 
-/// The last moved word, and the first bytes that were stored.
+/// The last moved word, and the first bytes that were stored and taken.
 fn compare_buffers(ran: &Ran, outgoing: &[u8], said: &Run, met: &mut Met) {
     let note = &ran.record.note;
     let last = (note.length != 0).then(|| {
@@ -505,15 +613,24 @@ fn compare_buffers(ran: &Ran, outgoing: &[u8], said: &Run, met: &mut Met) {
     });
     assert_eq!(said.last, last);
     let stored = &ran.incoming[..ran.record.incoming_mark as usize];
-    let shown = stored[..stored.len().min(SHOWN)].to_vec();
-    let has_more = stored.len() > shown.len();
-    assert_eq!(
-        said.stored,
-        (!shown.is_empty()).then_some((shown, has_more))
-    );
-    if has_more {
-        met.add("more bytes");
+    let taken = &outgoing[..ran.record.outgoing_mark as usize];
+    assert_eq!(said.incoming, shown(stored), "incoming buffer");
+    assert_eq!(said.outgoing, shown(taken), "outgoing buffer");
+    for (name, bytes) in [("incoming", stored), ("outgoing", taken)] {
+        let how = match bytes.len() {
+            0 => "none",
+            SHOWN => "40",
+            1..SHOWN => "some",
+            _ => "more",
+        };
+        met.add(format!("{name} {how}"));
     }
+}
+
+/// What is shown of a buffer's bytes up to its mark, and whether there are more.
+fn shown(used: &[u8]) -> Option<(Vec<u8>, bool)> {
+    let shown = &used[..used.len().min(SHOWN)];
+    (!shown.is_empty()).then(|| (shown.to_vec(), used.len() > SHOWN))
 }
 
 /// Lists of one instruction and what ends them, a run that waits, and rows that go on.
@@ -548,6 +665,32 @@ fn by_hand() -> Vec<Files> {
     ]
 }
 
+/// Words that fill what is shown of a buffer, scans at their end, pads.
+fn placed() -> Vec<Files> {
+    let outgoing: Vec<u8> = (0..100).collect();
+    let row = |words: usize| ok(0x00AB_CDEF).repeat(words);
+    let leaving = [row(1), answers(&[X]), row(16)].concat();
+    let mut cases = Vec::new();
+    for bits in [0, 0x0010_0000] {
+        for words in [19, 20, 21] {
+            let block = double(0x0C00_0322 | bits, (words as u32).wrapping_neg());
+            cases.push([one(&block), row(words), outgoing.clone()]);
+        }
+        // All positions from N 22, A 14 on, with words of 16 and of 24 bits.
+        let scans = [(0x2DC0_013A, 18_u32), (0x2DC0_0138, 36)];
+        for (first, halfwords) in scans {
+            let scan = double(first | bits, halfwords.wrapping_neg());
+            let padded = single(0x0C00_0302 | bits) + &scan;
+            cases.push([one(&scan), leaving.clone(), outgoing.clone()]);
+            cases.push([one(&padded), row(19), outgoing.clone()]);
+        }
+        // The last position of all.
+        let last = single(0x2FE0_011A | bits);
+        cases.push([one(&last), answers(&[X]), outgoing.clone()]);
+    }
+    cases
+}
+
 /// Lists that each refusal turns away.
 fn damaged() -> Vec<Files> {
     let lists = [
@@ -570,7 +713,8 @@ fn damaged() -> Vec<Files> {
         one(&double(0x0200_0120, 0xFFFF_0000)),
         one(&single(0x0210_0102)),
     ];
-    let mut cases: Vec<Files> = lists.map(|list| [list, vec![], vec![]]).to_vec();
+    let lists = lists.into_iter().chain(refused_fields()).chain(endless());
+    let mut cases: Vec<Files> = lists.map(|list| [list, vec![], vec![]]).collect();
     let word = one(&single(0x0200_0102));
     for place in 0..16 {
         let mut row = ok(3).repeat(2);
@@ -579,4 +723,33 @@ fn damaged() -> Vec<Files> {
     }
     cases.push([word, ok(3)[..5].to_vec(), vec![]]);
     cases
+}
+
+/// CAMAC fields that 6 to 9 refuse, with a count, with data, and of 4 bytes.
+fn refused_fields() -> Vec<Vec<u8>> {
+    let mut lists = Vec::new();
+    for (data, read, write) in [(6, 0x8200_0100, 0x8210_0100), (7, 0x3000_0100, 0x3010_0100)] {
+        for size in [0, 2] {
+            lists.push(one(&single(read | size)));
+            lists.push(one(&double(read | size | 0x20, 2_u32.wrapping_neg())));
+            lists.push(one(&double(write | size | 0x60, data)));
+        }
+    }
+    lists.push(one(&double(0x0200_0162, 5)));
+    lists.push(one(&double(0x0200_0178, 0xFEDC_BA98)));
+    lists.push(one(&double(0x0200_0120, 1_u32.wrapping_neg())));
+    lists.push(one(&double(0x0200_0122, 0)));
+    lists
+}
+
+/// Walks that repeat, at an instruction that is not the first.
+fn endless() -> [Vec<u8>; 3] {
+    let word = single(0x0200_0102);
+    [
+        list(&format!("{word} 20 02 00 01 00 {HALT}")),
+        list(&format!("{word} {word} 20 02 00 01 00 {HALT}")),
+        list(&format!(
+            "{word} 20 02 00 03 00 {HALT} {word} 20 02 00 01 00"
+        )),
+    ]
 }

@@ -5,6 +5,8 @@ use reference::words::{Address, Direction, WordSize};
 
 /// The whole text.
 pub struct Explained {
+    /// Whether run.lst, run.rep and run.out fill their buffers.
+    pub full: [bool; 3],
     pub size: u64,
     /// R of the first field, where fields are shown.
     pub limit: Option<u64>,
@@ -38,6 +40,26 @@ pub enum Said {
     Jump(u64),
     Literal(u32),
     Halt,
+    /// A CAMAC field that is refused.
+    Refused(Parts),
+}
+
+/// The parts of a CAMAC field.
+#[derive(Debug, PartialEq, Eq)]
+pub struct Parts {
+    pub mode: u64,
+    pub q_mode: u64,
+    pub address: Address,
+    pub size: WordSize,
+    pub second: Option<Second>,
+}
+
+/// The second longword.
+#[derive(Debug, PartialEq, Eq)]
+pub enum Second {
+    /// Halfwords.
+    Count(u64),
+    Data(u32),
 }
 
 #[derive(Debug, PartialEq, Eq)]
@@ -97,7 +119,23 @@ pub struct Visit {
     /// Each mark before and after.
     pub incoming: [u64; 2],
     pub outgoing: [u64; 2],
+    /// How the share of W comes about.
+    pub share: Option<Share>,
     pub has_pad: bool,
+}
+
+#[derive(Clone, Copy, Debug, PartialEq, Eq)]
+pub enum Share {
+    Words(u64),
+    Repeat {
+        words: u64,
+        tries: u64,
+    },
+    Scan {
+        words: u64,
+        stations: u64,
+        positions: u64,
+    },
 }
 
 #[derive(Clone, Copy, Debug, PartialEq, Eq)]
@@ -117,7 +155,8 @@ pub struct Run {
     pub bits: Vec<(u32, String)>,
     pub last: Option<Last>,
     /// The first bytes, and whether there are more.
-    pub stored: Option<(Vec<u8>, bool)>,
+    pub incoming: Option<(Vec<u8>, bool)>,
+    pub outgoing: Option<(Vec<u8>, bool)>,
     pub behind: u64,
 }
 
@@ -126,6 +165,7 @@ pub struct Stretch {
     pub first: u64,
     pub last: u64,
     pub instruction: u64,
+    pub crate_number: u64,
     /// N and A, and those of the last where they differ.
     pub from: [u64; 2],
     pub to: Option<[u64; 2]>,
@@ -135,6 +175,17 @@ pub struct Stretch {
     pub reply: [u8; 2],
     pub read: Option<Ends>,
     pub effect: Effect,
+    /// Where the words are that were stored or taken.
+    pub place: Option<Place>,
+    pub ends: bool,
+}
+
+/// The first byte and the last of words in their buffer.
+#[derive(Clone, Copy, Debug, PartialEq, Eq)]
+pub struct Place {
+    pub from: u64,
+    pub to: u64,
+    pub behind_pad: bool,
 }
 
 /// The first of some words, and the last of several.
@@ -154,8 +205,8 @@ pub enum Effect {
     Closed,
     TriedAgain,
     NextStation,
-    Ends,
-    MovedThenEnds,
+    /// None but the run's end.
+    Nothing,
 }
 
 #[derive(Debug, PartialEq, Eq)]
@@ -181,18 +232,22 @@ pub struct Last {
     pub bytes: Vec<u8>,
 }
 
+const SIZES: [(&str, WordSize); 2] = [("16 bits", WordSize::Bits16), ("24 bits", WordSize::Bits24)];
+
 pub fn read(text: &str) -> Explained {
     let mut lines = Lines::of(text);
+    let full = ["run.lst", "run.rep", "run.out"].map(|name| is_full(&mut lines, name));
     let mut line = lines.take("list of ");
     let size = line.plural(" byte", " bytes");
     line.end();
     let (limit, fields) = fields(&mut lines);
     lines.take("").end();
-    let walk = lines.next_is("   walk ").then(|| walk(&mut lines));
+    let walk = lines.next_is("walk, ").then(|| walk(&mut lines));
     let admission = admission(&mut lines);
     let run = admission.is_ok().then(|| run(&mut lines));
     lines.end();
     Explained {
+        full,
         size,
         limit,
         fields,
@@ -202,12 +257,23 @@ pub fn read(text: &str) -> Explained {
     }
 }
 
+/// Whether a file is said to fill its buffer.
+fn is_full(lines: &mut Lines, name: &str) -> bool {
+    if !lines.next_is(name) {
+        return false;
+    }
+    let mut line = lines.take(name);
+    line.skip(": 65536 bytes were read, and no more are");
+    line.end();
+    true
+}
+
 /// R and the fields.
 fn fields(lines: &mut Lines) -> (Option<u64>, Vec<Field>) {
     if !lines.next_is("  place") {
         return (None, Vec::new());
     }
-    lines.take("  place  number  field").end();
+    lines.take("  place  number  what it does").end();
     let mut head = lines.take("      0    head  format 1, try limit R = ");
     let limit = head.number();
     head.end();
@@ -230,6 +296,8 @@ fn field(lines: &mut Lines) -> Field {
         Said::Literal(literal)
     } else if line.skips("halt: end the run with code 0") {
         Said::Halt
+    } else if line.skips("refused: ") {
+        Said::Refused(parts(&mut line))
     } else {
         Said::Camac(command(&mut line, lines.take("                 ")))
     };
@@ -238,6 +306,35 @@ fn field(lines: &mut Lines) -> Field {
         place,
         number,
         said,
+    }
+}
+
+fn parts(line: &mut Line) -> Parts {
+    line.skip("transfer mode ");
+    let mode = line.number();
+    line.skip(", Q-mode ");
+    let q_mode = line.number();
+    line.skip(", ");
+    let address = address(line);
+    line.skip(", ");
+    let size = line.choose(&SIZES);
+    let second = if line.skips(", count ") {
+        let count = line.number();
+        line.skip(" halfwords");
+        Some(Second::Count(count))
+    } else if line.skips(", data ") {
+        let data = line.hexadecimal(8);
+        line.skip("h");
+        Some(Second::Data(data))
+    } else {
+        None
+    };
+    Parts {
+        mode,
+        q_mode,
+        address,
+        size,
+        second,
     }
 }
 
@@ -255,16 +352,14 @@ fn command(line: &mut Line, mut second: Line) -> Command {
         (" (read)", Function::Read),
     ]);
     let rule = rule(&mut second);
-    let abort_disable = second.choose(&[("; AD = 1 (", true), ("; AD = 0 (", false)]);
+    let abort_disable = second.choose(&[
+        ("; AD = 1 (not ended by ", true),
+        ("; AD = 0 (ended by ", false),
+    ]);
     if rule != Rule::Scan {
         second.skip("X = 0, ");
     }
-    second.skip("a parity error or ERR with X = 1 ");
-    second.skip(if abort_disable {
-        "does not end the run)"
-    } else {
-        "ends the run)"
-    });
+    second.skip("a parity error, or a damaged command: ERR while X = 1)");
     second.end();
     Command {
         moves,
@@ -276,7 +371,7 @@ fn command(line: &mut Line, mut second: Line) -> Command {
 }
 
 fn moves(line: &mut Line) -> Moves {
-    if line.skips("control, no data") {
+    if line.skips("command without data") {
         return Moves::Nothing;
     }
     if line.skips("write the list's own word ") {
@@ -294,8 +389,7 @@ fn moves(line: &mut Line) -> Moves {
         ("", Kind::Single),
     ]);
     let words = line.plural(" word of ", " words of ");
-    let sizes = [("16 bits", WordSize::Bits16), ("24 bits", WordSize::Bits24)];
-    Moves::Words(kind, direction, words, line.choose(&sizes))
+    Moves::Words(kind, direction, words, line.choose(&SIZES))
 }
 
 /// Crate, N, A and F.
@@ -313,8 +407,10 @@ fn address(line: &mut Line) -> Address {
 }
 
 fn rule(line: &mut Line) -> Rule {
-    if line.skips("repeat (a word is tried until Q = 1, at most ") {
-        return Rule::Repeat(line.plural(" time)", " times)"));
+    if line.skips("repeat (a word is tried until Q = 1; Q = 0 on try ") {
+        let limit = line.number();
+        line.skip(" ends the run)");
+        return Rule::Repeat(limit);
     }
     line.choose(&[
         ("stop (Q = 0 ends the run)", Rule::StopEnds),
@@ -330,9 +426,12 @@ fn rule(line: &mut Line) -> Rule {
     ])
 }
 
+const PAD: &str = "  2 pad bytes first";
+
 /// The walk, and the empty line behind it.
 fn walk(lines: &mut Lines) -> Walk {
-    let heading = "   walk  operations at most        incoming mark        outgoing mark";
+    lines.take("walk, with no block short").end();
+    let heading = " number  operations at most        incoming mark        outgoing mark";
     lines.take(heading).end();
     let mut visits = Vec::new();
     let end = loop {
@@ -359,15 +458,39 @@ fn visit(instruction: u64, mut line: Line) -> Visit {
         [before, line.column(7)]
     };
     let (incoming, outgoing) = (marks(), marks());
-    let has_pad = line.skips("  2 pad bytes first");
+    let has_share = !line.is_at_end() && !line.starts_with(PAD);
+    let share = has_share.then(|| share(&mut line));
+    let has_pad = line.skips(PAD);
     line.end();
     Visit {
         instruction,
         operations,
         incoming,
         outgoing,
+        share,
         has_pad,
     }
+}
+
+fn share(line: &mut Line) -> Share {
+    line.skip("  ");
+    let words = line.plural(" word", " words");
+    if line.skips(" less 1, and ") {
+        let stations = line.plural(" station", " stations");
+        line.skip("; at most ");
+        let positions = line.number();
+        line.skip(" positions");
+        return Share::Scan {
+            words,
+            stations,
+            positions,
+        };
+    }
+    if line.skips(", ") {
+        let tries = line.plural(" try each", " tries each");
+        return Share::Repeat { words, tries };
+    }
+    Share::Words(words)
 }
 
 fn lost(mut line: Line) -> WalkEnd {
@@ -449,25 +572,18 @@ fn run(lines: &mut Lines) -> Result<Run, Refused> {
         status,
         bits,
         last: last(lines),
-        stored: stored(lines),
+        incoming: shown(lines, "  incoming buffer:"),
+        outgoing: shown(lines, "  outgoing buffer:"),
         behind: behind(lines),
     })
 }
 
 fn stretch(mut line: Line) -> Stretch {
-    let several = line.skips("s ");
-    if !several {
-        line.skip(" ");
-    }
-    let first = line.number();
-    let last = if several {
-        line.skip(" to ");
-        line.number()
-    } else {
-        first
-    };
+    let [first, last] = operations(&mut line);
     line.skip(", instruction ");
     let instruction = line.number();
+    line.skip(", crate ");
+    let crate_number = line.number();
     line.skip(", ");
     let from = position(&mut line);
     let to = line.skips(" to ").then(|| position(&mut line));
@@ -478,18 +594,35 @@ fn stretch(mut line: Line) -> Stretch {
     let reply = reply(&mut line);
     let read = ends(&mut line);
     line.skip(": ");
+    let (effect, place, ends) = effect(line);
     Stretch {
         first,
         last,
         instruction,
+        crate_number,
         from,
         to,
         function,
         written,
         reply,
         read,
-        effect: effect(line),
+        effect,
+        place,
+        ends,
     }
+}
+
+/// The numbers of the first operation and of the last, or twice that of the only one.
+fn operations(line: &mut Line) -> [u64; 2] {
+    if !line.skips("s ") {
+        line.skip(" ");
+        return [line.number(); 2];
+    }
+    let first = line.number();
+    line.skip(" to ");
+    let last = line.number();
+    assert!(first < last, "operations {first} to {last}");
+    [first, last]
 }
 
 /// N and A.
@@ -537,20 +670,40 @@ fn reply(line: &mut Line) -> [u8; 2] {
     [0, flags]
 }
 
-fn effect(mut line: Line) -> Effect {
-    let effect = line.choose(&[
-        ("stored, Q and X in bits 31 and 30", Effect::StoredWithQAndX),
-        ("stored", Effect::Stored),
-        ("taken from the outgoing buffer", Effect::Taken),
+/// What came of a reply, where its words are, and whether the run ends.
+fn effect(mut line: Line) -> (Effect, Option<Place>, bool) {
+    if line.skips("the run ends") {
+        line.end();
+        return (Effect::Nothing, None, true);
+    }
+    let mut effect = line.choose(&[
+        ("stored at ", Effect::Stored),
+        ("taken from ", Effect::Taken),
         ("done", Effect::Done),
         ("not moved, the block is closed", Effect::Closed),
         ("not ready, tried again", Effect::TriedAgain),
         ("no word here, on to the next station", Effect::NextStation),
-        ("the run ends", Effect::Ends),
-        ("moved, then the run ends", Effect::MovedThenEnds),
     ]);
+    let is_moved = matches!(effect, Effect::Stored | Effect::Taken);
+    let place = is_moved.then(|| place(&mut line));
+    if effect == Effect::Stored && line.skips(", Q and X in bits 31 and 30") {
+        effect = Effect::StoredWithQAndX;
+    }
+    let ends = line.skips("; then the run ends");
     line.end();
-    effect
+    (effect, place, ends)
+}
+
+fn place(line: &mut Line) -> Place {
+    let from = line.number();
+    line.skip(" to ");
+    let to = line.number();
+    let behind_pad = line.skips(", behind 2 pad bytes");
+    Place {
+        from,
+        to,
+        behind_pad,
+    }
 }
 
 fn end(lines: &mut Lines) -> End {
@@ -591,10 +744,16 @@ fn used(mut line: Line) -> [u64; 2] {
     [used, most]
 }
 
-/// The status, and its bits in words; the last of them is whether the run has ended.
+/// The status, with its code, and its bits in words; the last of them is whether the run has ended.
 fn status(mut line: Line) -> (u32, Vec<(u32, String)>) {
     let status = line.hexadecimal(8);
-    line.skip("h:");
+    line.skip("h: bits 31 to 28, code ");
+    assert_eq!(
+        line.hexadecimal(1),
+        status >> 28,
+        "the code of {status:08X}"
+    );
+    line.skip(";");
     let mut bits = Vec::new();
     for part in line.rest().split(';') {
         if part == " not ended" {
@@ -628,11 +787,12 @@ fn last(lines: &mut Lines) -> Option<Last> {
     })
 }
 
-fn stored(lines: &mut Lines) -> Option<(Vec<u8>, bool)> {
-    if !lines.next_is("  incoming buffer") {
+/// The bytes that are shown of a buffer.
+fn shown(lines: &mut Lines, name: &str) -> Option<(Vec<u8>, bool)> {
+    if !lines.next_is(name) {
         return None;
     }
-    let mut line = lines.take("  incoming buffer:");
+    let mut line = lines.take(name);
     let bytes = line.bytes();
     let has_more = line.skips(" ..");
     line.end();

@@ -35,6 +35,14 @@ pub struct Line<'a> {
 }
 
 impl Line<'_> {
+    pub fn starts_with(&self, words: &str) -> bool {
+        self.rest.starts_with(words)
+    }
+
+    pub fn is_at_end(&self) -> bool {
+        self.rest.is_empty()
+    }
+
     pub fn skips(&mut self, words: &str) -> bool {
         let rest = self.rest.strip_prefix(words);
         self.rest = rest.unwrap_or(self.rest);

@@ -1,12 +1,14 @@
 //! What the program explain should say, from what the separate build computes.
 
-use super::explained::{Command, Effect, Function, Kind, Moves, Rule, Said};
+use super::explained::{Command, Effect, Function, Kind, Moves, Parts, Place, Rule, Said};
+use super::explained::{Second, Share, Visit, Walk, WalkEnd};
 use reference::camrun::MOST_BYTES;
-use reference::list::{FieldReader, Instruction};
+use reference::list::{FieldReader, Instruction, List};
+use reference::packing;
 use reference::reply::Reply;
 use reference::run::{begin, take, wanted, Operation};
 use reference::status;
-use reference::walk::Admitted;
+use reference::walk::{most_operations, Admitted, Marks};
 use reference::words::{Address, Camac, Direction, QMode, Transfer, WordSize};
 use reference::{Counts, Record};
 
@@ -87,11 +89,16 @@ pub fn expected(number: u64, mode: u8) -> &'static str {
 
 /// What 20 and 21 expected.
 pub fn room(number: u64, counts: &Counts, outgoing_len: usize) -> String {
-    if number == 20 {
-        return format!("room for {} bytes; here are {MOST_BYTES}", counts.b);
-    }
-    let needed = counts.o;
-    format!("{needed} bytes of outgoing words; run.out has {outgoing_len}")
+    let expected = match number {
+        20 => format!("room for B bytes, where {MOST_BYTES} are here"),
+        _ => format!("O bytes, where run.out has {outgoing_len}"),
+    };
+    let plural = |n: u64, what: &str| format!("{n} {what}{}", if n == 1 { "" } else { "s" });
+    let worst = plural(counts.w, "operation");
+    let [stored, taken] = [counts.b, counts.o].map(|n| plural(n, "byte"));
+    format!(
+        "{expected}; W = {worst} at most, B = {stored} stored at most, O = {taken} taken at most"
+    )
 }
 
 /// What is shown of a refused field: of its bytes as many as a head and two longwords have.
@@ -129,6 +136,106 @@ pub fn said(instruction: &Instruction, limit: u64) -> Said {
     }
 }
 
+/// The parts of a CAMAC field that is refused.
+pub fn parts(field: &[u8]) -> Parts {
+    let longword = |at: usize| {
+        let bytes = [field[at], field[at + 1], field[at + 2], field[at + 3]];
+        u32::from_le_bytes(bytes)
+    };
+    let first = longword(3);
+    let bits = |low: u32, count: u32| u64::from(first >> low & ((1 << count) - 1));
+    let mode = bits(5, 2);
+    Parts {
+        mode,
+        q_mode: bits(3, 2),
+        address: Address {
+            crate_number: bits(8, 6),
+            station: bits(25, 5),
+            subaddress: bits(21, 4),
+            function: bits(16, 5),
+        },
+        size: match bits(1, 1) {
+            0 => WordSize::Bits24,
+            _ => WordSize::Bits16,
+        },
+        second: (field[1..3] == [8, 0]).then(|| match mode {
+            3 => Second::Data(longword(7)),
+            _ => Second::Count((1 << 32) - u64::from(longword(7))),
+        }),
+    }
+}
+
+/// The walk up to its halt, or to where it comes to an instruction again or to none.
+pub fn walk(list: &List) -> Walk {
+    let mut visits: Vec<Visit> = Vec::new();
+    let mut met = vec![false; list.instructions.len()];
+    let (mut number, mut marks) = (0, Marks::default());
+    let end = loop {
+        let Some(instruction) = list.instructions.get(number) else {
+            break WalkEnd::Passes;
+        };
+        if met[number] {
+            break WalkEnd::Again(number as u64);
+        }
+        if *instruction == Instruction::Halt {
+            break WalkEnd::Halt(number as u64);
+        }
+        met[number] = true;
+        visits.push(visit(list, number, marks));
+        marks = marks.after(instruction);
+        number = match instruction {
+            Instruction::Jump(target) => *target,
+            _ => number + 1,
+        };
+    };
+    Walk { visits, end }
+}
+
+fn visit(list: &List, number: usize, marks: Marks) -> Visit {
+    let instruction = &list.instructions[number];
+    let after = marks.after(instruction);
+    Visit {
+        instruction: number as u64,
+        operations: most_operations(list, number),
+        incoming: [marks.incoming, after.incoming],
+        outgoing: [marks.outgoing, after.outgoing],
+        share: share(instruction, list.try_limit),
+        has_pad: has_pad(instruction, marks),
+    }
+}
+
+/// How the share of W comes about.
+fn share(instruction: &Instruction, tries: u64) -> Option<Share> {
+    let Instruction::Camac(camac) = instruction else {
+        return None;
+    };
+    let words = camac.words();
+    Some(match camac.q_mode {
+        QMode::Stop | QMode::Ignore => Share::Words(words),
+        QMode::Repeat => Share::Repeat { words, tries },
+        QMode::Scan => Share::Scan {
+            words,
+            stations: camac.position().stations(),
+            positions: camac.position().positions(),
+        },
+    })
+}
+
+/// Whether the first word of an instruction has a pad before it.
+fn has_pad(instruction: &Instruction, marks: Marks) -> bool {
+    let pads = |mark: u64, length: u64| packing::offset(mark, length) > mark;
+    match instruction {
+        Instruction::Camac(camac) => {
+            let (after, length) = (marks.after(instruction), camac.size.bytes());
+            let stores = after.incoming > marks.incoming && pads(marks.incoming, length);
+            let takes = after.outgoing > marks.outgoing && pads(marks.outgoing, length);
+            stores || takes
+        }
+        Instruction::Literal(_) => pads(marks.incoming, packing::LITERAL_BYTES),
+        Instruction::Jump(_) | Instruction::Halt => false,
+    }
+}
+
 fn moves(camac: &Camac) -> Moves {
     let kind = match camac.transfer {
         Transfer::Inline { data } => return Moves::Own(camac.size, data),
@@ -162,6 +269,7 @@ fn rule(camac: &Camac, limit: u64) -> Rule {
 /// An operation that was made, and what came of its reply.
 pub struct Event {
     pub instruction: u64,
+    pub crate_number: u64,
     /// N and A.
     pub position: [u64; 2],
     pub function: u64,
@@ -171,6 +279,10 @@ pub struct Event {
     pub reply: [u8; 2],
     pub read: Option<u32>,
     pub effect: Effect,
+    /// Where the word is that was moved.
+    pub place: Option<Place>,
+    /// Whether the run ended there, by no halt.
+    pub ends: bool,
 }
 
 /// A run: its events, and what it came to.
@@ -225,6 +337,7 @@ fn event(
     let writes = camac.direction() == Direction::Write;
     Event {
         instruction: before.instruction,
+        crate_number: operation.crate_number,
         position: [operation.n, operation.a],
         function: operation.f,
         size: camac.size,
@@ -232,18 +345,35 @@ fn event(
         reply: [reply[0], reply[1]],
         read: is_read.then_some(data & camac.size.mask()),
         effect: effect(camac, before, after),
+        place: place(before, after),
+        ends: status::code(after.status) != 0,
     }
+}
+
+/// The place of a word that was moved, from its note; its pad, from the mark before it.
+fn place(before: &Record, after: &Record) -> Option<Place> {
+    let note = after.note;
+    if before.note == note {
+        return None;
+    }
+    let mark = match note.buffer {
+        0 => before.incoming_mark,
+        _ => before.outgoing_mark,
+    };
+    let pad = note.offset - mark;
+    assert!(pad == 0 || pad == 2, "a pad of {pad} bytes");
+    Some(Place {
+        from: note.offset,
+        to: note.offset + note.length - 1,
+        behind_pad: pad == 2,
+    })
 }
 
 /// What came of a reply, as the record shows it.
 fn effect(camac: &Camac, before: &Record, after: &Record) -> Effect {
     let is_moved = before.note != after.note;
-    if status::code(after.status) != 0 {
-        return if is_moved {
-            Effect::MovedThenEnds
-        } else {
-            Effect::Ends
-        };
+    if status::code(after.status) != 0 && !is_moved {
+        return Effect::Nothing;
     }
     let stays = !after.ended && after.instruction == before.instruction;
     match (is_moved, after.note.buffer) {
