@@ -44,7 +44,7 @@ fn print_code(code: u32, kind: u8) {
 fn print_cause(code: u32, kind: u8) {
     match code {
         0 => print(b"the run came to its halt"),
-        4 => print(b"the command reached the crate damaged, ERR with X = 1"),
+        4 => print(b"the command reached the crate damaged, ERR while X = 1"),
         7 => print(b"Q = 0 in stop"),
         8 => print(b"X = 0, no module took the command"),
         9 => print(b"the scan left station 23 before all its words were done"),

@@ -184,15 +184,22 @@ pub(crate) fn print_parts(place: usize, number: usize, first: u32) {
     }
 }
 
-// The second longword: data of an inline write, else the count of a block.
+// The second longword: none of a single's, the data of an inline write, or the count of a block.
 pub(crate) fn print_second(mode: u32, second: u32) {
-    if mode == 3 {
-        print(b", data ");
-        print_hex(second, 8);
-        print(b"h");
-    } else {
-        print(b", count ");
-        print_number((1 << 32) - (second as u64));
-        print(b" halfwords");
+    match mode {
+        0 => {
+            print(b", second longword ");
+            print_hex(second, 8);
+            print(b"h");
+        }
+        3 => {
+            print(b", data ");
+            print_hex(second, 8);
+            print(b"h");
+        }
+        _ => {
+            print(b", count ");
+            print_plural((1 << 32) - (second as u64), b" halfword", b" halfwords");
+        }
     }
 }

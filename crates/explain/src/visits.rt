@@ -96,8 +96,7 @@ fn print_share(limit: u64, t: Transfer) {
             print_plural(n, b" word less 1, and ", b" words less 1, and ");
             print_plural(base::less(24, p.station as u64), b" station", b" stations");
             print(b"; at most ");
-            print_number(positions_from(p));
-            print(b" positions");
+            print_plural(positions_from(p), b" position", b" positions");
         }
     }
 }

@@ -297,6 +297,7 @@ fn part_events(refusal: u8, parts: &Parts) -> [String; 2] {
         None => "none",
         Some(Second::Count(_)) => "count",
         Some(Second::Data(_)) => "data",
+        Some(Second::Longword(_)) => "longword of a single",
     };
     let bits = match parts.size {
         WordSize::Bits16 => 16,

@@ -60,6 +60,8 @@ pub enum Second {
     /// Halfwords.
     Count(u64),
     Data(u32),
+    /// A single has none of its own.
+    Longword(u32),
 }
 
 #[derive(Debug, PartialEq, Eq)]
@@ -319,13 +321,16 @@ fn parts(line: &mut Line) -> Parts {
     line.skip(", ");
     let size = line.choose(&SIZES);
     let second = if line.skips(", count ") {
-        let count = line.number();
-        line.skip(" halfwords");
+        let count = line.plural(" halfword", " halfwords");
         Some(Second::Count(count))
     } else if line.skips(", data ") {
         let data = line.hexadecimal(8);
         line.skip("h");
         Some(Second::Data(data))
+    } else if line.skips(", second longword ") {
+        let longword = line.hexadecimal(8);
+        line.skip("h");
+        Some(Second::Longword(longword))
     } else {
         None
     };
@@ -478,8 +483,7 @@ fn share(line: &mut Line) -> Share {
     if line.skips(" less 1, and ") {
         let stations = line.plural(" station", " stations");
         line.skip("; at most ");
-        let positions = line.number();
-        line.skip(" positions");
+        let positions = line.plural(" position", " positions");
         return Share::Scan {
             words,
             stations,

@@ -32,7 +32,7 @@ pub const BITS: [(u32, &str); 12] = [
 pub fn cause(code: u8, by_timeout: bool) -> &'static str {
     match code {
         0 => "the run came to its halt",
-        4 => "the command reached the crate damaged, ERR with X = 1",
+        4 => "the command reached the crate damaged, ERR while X = 1",
         7 => "Q = 0 in stop",
         8 => "X = 0, no module took the command",
         9 => "the scan left station 23 before all its words were done",
@@ -159,6 +159,7 @@ pub fn parts(field: &[u8]) -> Parts {
             _ => WordSize::Bits16,
         },
         second: (field[1..3] == [8, 0]).then(|| match mode {
+            0 => Second::Longword(longword(7)),
             3 => Second::Data(longword(7)),
             _ => Second::Count((1 << 32) - u64::from(longword(7))),
         }),
