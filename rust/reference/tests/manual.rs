@@ -562,6 +562,22 @@ fn codes_have_their_names() {
     assert_eq!(reached, shown);
 }
 
+/// From the highest bit down.
+const STATUS_BITS: [u32; 12] = [
+    status::DERR,
+    status::TIMEOUT,
+    status::NO_SYNC,
+    status::ERR,
+    status::SCAN_LEFT,
+    status::LPE,
+    status::TPE,
+    status::NOT_RECOGNISED,
+    status::TRANSMISSION,
+    status::NO_X,
+    status::NO_Q,
+    status::ENDED,
+];
+
 /// The status bits are this library's, with those that a waiting record may have; each is set
 /// in an example.
 #[test]
@@ -572,23 +588,9 @@ fn status_bits_are_the_librarys() {
         .iter()
         .map(|row| 1 << row[0].parse::<u32>().unwrap())
         .collect();
-    let known = [
-        status::DERR,
-        status::TIMEOUT,
-        status::NO_SYNC,
-        status::ERR,
-        status::SCAN_LEFT,
-        status::LPE,
-        status::TPE,
-        status::NOT_RECOGNISED,
-        status::TRANSMISSION,
-        status::NO_X,
-        status::NO_Q,
-        status::ENDED,
-    ];
     assert_eq!(
         (rows[0][0].as_str(), bits.as_slice()),
-        ("31 to 28", &known[..])
+        ("31 to 28", &STATUS_BITS[..])
     );
     assert_eq!(bits, header_numbers("CAMLIST_STATUS_"));
     let may_wait = rows[1..]
@@ -604,7 +606,7 @@ fn status_bits_are_the_librarys() {
     });
     let set = statuses.fold(0, |all, status| all | status);
     assert_eq!(
-        known.iter().filter(|&bit| set & bit == 0).count(),
+        STATUS_BITS.iter().filter(|&bit| set & bit == 0).count(),
         0,
         "{set:08X}"
     );
