@@ -2,12 +2,12 @@
 // words left, marks and note follow from how many there are.
 ghost use Rattle.std.specs.Prelude.{◌≡◌, true, false, ◌+◌, ◌*◌, ◌%◌, ◌^◌, ◌<◌, ◌≤◌, eqb, length};
 ghost use Rattle.std.specs.Int.Bits.{bit_and};
-ghost use Rattle.qmodes.specs.model.Answers.{wordsAhead};
+ghost use Rattle.qmodes.specs.model.Answers.{words_ahead};
 ghost use Rattle.camac.specs.model.Bits.{Passes};
-ghost use Rattle.packing.specs.Packing.{markAfterWords};
+ghost use Rattle.packing.specs.Packing.{mark_after_words};
 ghost use Rattle.packing.specs.model.Marks.{MarksTo};
-ghost use Rattle.row.specs.model.Words.{flagsAt, Tops};
-ghost use Rattle.answers.specs.model.Visit.{rulesIn, marksBehind, noteBehind, NoteRoom, afterWords, bytesAfter, waitedWith, afterWait, Words, Takes, Waits, Passed, Roomy};
+ghost use Rattle.row.specs.model.Words.{flags_at, Tops};
+ghost use Rattle.answers.specs.model.Visit.{rules_in, marks_behind, note_behind, NoteRoom, after_words, bytes_after, waited_with, after_wait, Words, Takes, Waits, Passed, Roomy};
 
 use camac::Direction;
 use packing::Marks;
@@ -39,7 +39,7 @@ pub struct Stay {
 
 fn rules_in(first: u32) -> Rules
     requires { Passes first }
-    ensures { result ≡ rulesIn first }
+    ensures { result ≡ rules_in first }
 {
     let q = camac::passed_qmode(first);
     let direction = camac::direction_in(first);
@@ -56,14 +56,14 @@ fn rules_in(first: u32) -> Rules
 // The mark behind some words. Numbers are an admitted list's.
 fn mark_behind(wide: bool, words: usize, mark: usize) -> usize
     requires { (words ≤ 65536) × ((mark ≤ 2 ^ 60) × (mark % 2 ≡ 0)) }
-    ensures { result ≡ markAfterWords wide words mark }
+    ensures { result ≡ mark_after_words wide words mark }
 {
     packing::mark_after_words(wide, base::u64_of_size(words), base::u64_of_size(mark)) as usize
 }
 
 fn marks_behind(rules: Rules, words: usize, m: Marks) -> Marks
     requires { (words ≤ 65536) × MarksTo (2 ^ 60) m }
-    ensures { result ≡ marksBehind rules.direction rules.wide words m }
+    ensures { result ≡ marks_behind rules.direction rules.wide words m }
 {
     let direction = rules.direction;
     match direction {
@@ -82,7 +82,7 @@ fn marks_behind(rules: Rules, words: usize, m: Marks) -> Marks
 // The note of the last of some words, by the marks behind it.
 fn note_behind(rules: Rules, marks: Marks, note: Note) -> Note
     requires { NoteRoom rules.direction rules.wide marks }
-    ensures { result ≡ noteBehind rules.direction rules.wide marks note }
+    ensures { result ≡ note_behind rules.direction rules.wide marks note }
 {
     let width = packing::width_of(rules.wide);
     let direction = rules.direction;
@@ -104,8 +104,8 @@ fn note_behind(rules: Rules, marks: Marks, note: Note) -> Note
 // Behind some words, with the marks there. Numbers are an admitted list's.
 fn behind_words(rules: Rules, here: Stay, words: usize, marks: Marks) -> Stay
     requires { (1 ≤ words) × ((words ≤ here.left) × ((here.left ≤ 65536) × ((here.taken < 2 ^ 61) × ((here.position < 65536)
-        × (marks ≡ marksBehind rules.direction rules.wide words here.marks))))) }
-    ensures { result ≡ afterWords rules words here }
+        × (marks ≡ marks_behind rules.direction rules.wide words here.marks))))) }
+    ensures { result ≡ after_words rules words here }
 {
     let q = rules.q;
     let note = here.note;
@@ -123,7 +123,7 @@ fn behind_words(rules: Rules, here: Stay, words: usize, marks: Marks) -> Stay
 fn after_words(rules: Rules, here: Stay, words: usize) -> Stay
     requires { (1 ≤ words) × ((words ≤ here.left) × ((here.left ≤ 65536) × ((here.taken < 2 ^ 61) × ((here.position < 65536)
         × MarksTo (2 ^ 60) here.marks)))) }
-    ensures { result ≡ afterWords rules words here }
+    ensures { result ≡ after_words rules words here }
 {
     let before = here.marks;
     behind_words(rules, here, words, marks_behind(rules, words, before))
@@ -140,7 +140,7 @@ fn take_words(
     tops: &[u32; 64],
 ) -> Stay
     requires { Roomy rules row.now answers here incoming.old × Words rules row.now answers here 1
-        × ((1 ≤ most) × ((most ≤ wordsAhead rules.q here.position here.left) × (here.taken + most ≤ answers))) × Tops tops.now }
+        × ((1 ≤ most) × ((most ≤ words_ahead rules.q here.position here.left) × (here.taken + most ≤ answers))) × Tops tops.now }
     ensures { Takes rules row.now answers here incoming.old result incoming.new }
 {
     let direction = rules.direction;
@@ -184,8 +184,8 @@ fn last_word(
     tops: &[u32; 64],
 ) -> Marks
     requires { Roomy rules row.now answers here incoming.old × Words rules row.now answers here 1 × Tops tops.now }
-    ensures { (result ≡ marksBehind rules.direction rules.wide 1 here.marks)
-        × (incoming.new ≡ bytesAfter rules row.now 1 here incoming.old) }
+    ensures { (result ≡ marks_behind rules.direction rules.wide 1 here.marks)
+        × (incoming.new ≡ bytes_after rules row.now 1 here incoming.old) }
 {
     let direction = rules.direction;
     let marks = here.marks;
@@ -205,7 +205,7 @@ fn last_word(
 // Whether the answer here, which is no word, is no cause either.
 fn is_wait(rules: Rules, limit: usize, here: Stay, row: &[u8], answers: usize) -> bool
     requires { (1 ≤ here.left) × ((here.taken + 1 ≤ answers) × ((answers * 8 ≤ length row.now) × ((here.tries < 65536)
-        × (eqb (bit_and (flagsAt row.now here.taken) rules.word) (rules.word % 4) ≡ false)))) }
+        × (eqb (bit_and (flags_at row.now here.taken) rules.word) (rules.word % 4) ≡ false)))) }
     ensures { result ≡ true → Waits rules limit row.now answers here }
 {
     let q = rules.q;
@@ -218,7 +218,7 @@ fn is_wait(rules: Rules, limit: usize, here: Stay, row: &[u8], answers: usize) -
 // One answer on, with no word moved.
 fn waited(tries: usize, position: usize, here: Stay) -> Stay
     requires { here.taken < 2 ^ 61 }
-    ensures { result ≡ waitedWith tries position here }
+    ensures { result ≡ waited_with tries position here }
 {
     let marks = here.marks;
     let note = here.note;
@@ -234,7 +234,7 @@ fn waited(tries: usize, position: usize, here: Stay) -> Stay
 
 fn after_wait(rules: Rules, here: Stay) -> Stay
     requires { (here.tries < 65536) × ((here.taken < 2 ^ 61) × (here.position < 65536)) }
-    ensures { result ≡ afterWait rules here }
+    ensures { result ≡ after_wait rules here }
 {
     let q = rules.q;
     match q {
@@ -291,7 +291,7 @@ fn visit_on(
 // its own rules do; what this leaves is judged by them behind it.
 fn is_last(first: u32, here: Stay, row: &[u8], answers: usize) -> bool
     requires { answers * 8 ≤ length row.now }
-    ensures { result ≡ true → (here.left ≡ 1) × Words (rulesIn first) row.now answers here 1 }
+    ensures { result ≡ true → (here.left ≡ 1) × Words (rules_in first) row.now answers here 1 }
 {
     if here.left != 1 {
         return false;
@@ -313,8 +313,8 @@ pub fn visit(
     answers: usize,
     tops: &[u32; 64],
 ) -> Stay
-    requires { (limit < 65536) × (Passes first × Roomy (rulesIn first) row.now answers from incoming.old) × Tops tops.now }
-    ensures { Passed (rulesIn first) limit row.now answers from incoming.old result incoming.new }
+    requires { (limit < 65536) × (Passes first × Roomy (rules_in first) row.now answers from incoming.old) × Tops tops.now }
+    ensures { Passed (rules_in first) limit row.now answers from incoming.old result incoming.new }
 {
     if is_last(first, from, row, answers) {
         let rules = rules_in(first);

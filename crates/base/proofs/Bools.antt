@@ -12,26 +12,26 @@ pub and_right : (a b : Bool) → a && b ≡ true → b ≡ true
 and_right true b e = e
 and_right false b e = absurd (false≢true e)
 
-pub and-not-left : (a : Bool) {b : Bool} → b ≡ false → a && not b ≡ false → a ≡ false
-and-not-left true {b = true} p e = p
-and-not-left true {b = false} p e = e
-and-not-left false p e = refl
+pub and_not_left : (a : Bool) {b : Bool} → b ≡ false → a && not b ≡ false → a ≡ false
+and_not_left true {b = true} p e = p
+and_not_left true {b = false} p e = e
+and_not_left false p e = refl
 
 pub or_cases : (a b : Bool) → a || b ≡ true → (a ≡ true) ⊎ (b ≡ true)
 or_cases true b e = inl refl
 or_cases false b e = inr e
 
-pub or-first : (a b : Bool) → b ≡ false → a || b ≡ true → a ≡ true
-or-first true b p e = refl
-or-first false b p e = absurd (false≢true (sym p ∙ e))
+pub or_first : (a b : Bool) → b ≡ false → a || b ≡ true → a ≡ true
+or_first true b p e = refl
+or_first false b p e = absurd (false≢true (sym p ∙ e))
 
-pub or-false-left : (a b : Bool) → a || b ≡ false → a ≡ false
-or-false-left true b e = e
-or-false-left false b e = refl
+pub or_false_left : (a b : Bool) → a || b ≡ false → a ≡ false
+or_false_left true b e = e
+or_false_left false b e = refl
 
-pub or-false-right : (a b : Bool) → a || b ≡ false → b ≡ false
-or-false-right true b e = absurd (true≢false e)
-or-false-right false b e = e
+pub or_false_right : (a b : Bool) → a || b ≡ false → b ≡ false
+or_false_right true b e = absurd (true≢false e)
+or_false_right false b e = e
 
 -- a joined test from its parts
 pub both : {a b : Bool} → a ≡ true → b ≡ true → a && b ≡ true

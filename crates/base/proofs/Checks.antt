@@ -37,7 +37,7 @@ number_at k [] = 0
 number_at zero (c ∷ cs) = c.number
 number_at (suc k) (c ∷ cs) = number_at k cs
 
-pub first-at : (k : ℕ) (cs : List Check) → FirstAt k cs → first_of cs ≡ number_at k cs
-first-at k [] h = refl
-first-at zero (c ∷ cs) h = rw h
-first-at (suc k) (c ∷ cs) h = rw h.0 (first-at k cs h.1)
+pub first_at_lem : (k : ℕ) (cs : List Check) → FirstAt k cs → first_of cs ≡ number_at k cs
+first_at_lem k [] h = refl
+first_at_lem zero (c ∷ cs) h = rw h
+first_at_lem (suc k) (c ∷ cs) h = rw h.0 (first_at_lem k cs h.1)

@@ -57,18 +57,18 @@ without n (x ∷ l) a b = go (eqb x n) refl (without n l a.1 b.1)
           frees = λ k f. (f.0, w.frees k f.1);
         }
 
-pub apart-most : (n : ℕ) (l : List ℕ) → Apart l → Below n l → length l ≤ n
-apart-most zero [] a b = omega arith
-apart-most zero (x ∷ l) a b = absurd (omega (arith, b.0))
-apart-most (suc n) l a b = let w = without n l a b in omega (arith, w.size, apart-most n w.rest w.apart w.under)
+pub apart_most : (n : ℕ) (l : List ℕ) → Apart l → Below n l → length l ≤ n
+apart_most zero [] a b = omega arith
+apart_most zero (x ∷ l) a b = absurd (omega (arith, b.0))
+apart_most (suc n) l a b = let w = without n l a b in omega (arith, w.size, apart_most n w.rest w.apart w.under)
 
 pub data Among (k : ℕ) : List ℕ → Type 0 where
   first : {x : ℕ} {l : List ℕ} → x ≡ k → Among k (x ∷ l)
   later : {x : ℕ} {l : List ℕ} → Among k l → Among k (x ∷ l)
 
-pub among-or-free : (k : ℕ) (l : List ℕ) → Among k l ⊎ Free k l
-among-or-free k [] = inr tt
-among-or-free k (x ∷ l) = go (eqb x k) refl (among-or-free k l)
+pub among_or_free : (k : ℕ) (l : List ℕ) → Among k l ⊎ Free k l
+among_or_free k [] = inr tt
+among_or_free k (x ∷ l) = go (eqb x k) refl (among_or_free k l)
   where
     go : (t : Bool) → eqb x k ≡ t → Among k l ⊎ Free k l → Among k (x ∷ l) ⊎ Free k (x ∷ l)
     go true e r = inl (first (eqb-true _ _ e))

@@ -10,9 +10,9 @@ pub on : {C : Type 0} (b : Bool) → (b ≡ true → C) → (b ≡ false → C) 
 on true f g = f refl
 on false f g = g refl
 
-pub true-not-false : true ≡ false → ⊥
-true-not-false e = let z : ◌≡◌ {A = ℕ} 0 1 = cc in omega arith
+pub true_not_false : true ≡ false → ⊥
+true_not_false e = let z : ◌≡◌ {A = ℕ} 0 1 = cc in omega arith
 
-pub leb-same : (a b c d : ℕ) → (a ≤ b → c ≤ d) → (b < a → d < c) → leb a b ≡ leb c d
-leb-same a b c d f g =
+pub leb_same : (a b c d : ℕ) → (a ≤ b → c ≤ d) → (b < a → d < c) → leb a b ≡ leb c d
+leb_same a b c d f g =
     on (leb a b) (λ e. e ∙ sym (le-leb c d (f (leb-true a b e)))) (λ e. e ∙ sym (lt-leb c d (g (leb-false a b e))))

@@ -2,8 +2,8 @@
 use Rattle.std.specs.Prelude.{ℕ}
 use Rattle.base.specs.declared.Refusal.{Refusal}
 
-abbrev pub notRefused : Refusal
-notRefused = record { number = 0; place = 0 }
+abbrev pub not_refused : Refusal
+not_refused = record { number = 0; place = 0 }
 
 -- "a place not named is 0"
 abbrev pub refusal : ℕ → Refusal

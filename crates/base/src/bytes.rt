@@ -1,7 +1,7 @@
 // Little-endian numbers of two, four and eight bytes in a row of bytes. Bytes read past the end count as zero.
 ghost use Rattle.std.specs.Prelude.{◌≡◌, ◌+◌, ◌*◌, ◌^◌, ◌≤◌, ◌<◌, length, get_or};
 ghost use Rattle.std.proofs.lemmas.List.Edits.{sets};
-ghost use Rattle.base.specs.Bytes.{short_at, longAt, quadAt, shortBytes, longBytes, quadBytes};
+ghost use Rattle.base.specs.Bytes.{short_at, long_at, quad_at, short_bytes, long_bytes, quad_bytes};
 
 use crate::numbers::{low_byte, u32_of, u64_of, usize_of};
 
@@ -35,7 +35,7 @@ pub fn short_at(bytes: &[u8], i: usize) -> usize
 // Four bytes, all of them there.
 pub fn whole_at(bytes: &[u8], i: usize) -> u32
     requires { i + 4 ≤ length bytes.now }
-    ensures { result ≡ longAt bytes.now i }
+    ensures { result ≡ long_at bytes.now i }
 {
     u32_of(bytes[i])
         + u32_of(bytes[i + 1]) * 256
@@ -46,7 +46,7 @@ pub fn whole_at(bytes: &[u8], i: usize) -> u32
 // Four bytes. A place in a list is below 2^63, and a longword lies at most seven bytes on.
 pub fn long_at(bytes: &[u8], i: usize) -> u32
     requires { i < 2 ^ 63 + 8 }
-    ensures { result ≡ longAt bytes.now i }
+    ensures { result ≡ long_at bytes.now i }
 {
     if i + 4 <= bytes.len() {
         return whole_at(bytes, i);
@@ -65,7 +65,7 @@ pub fn long_at(bytes: &[u8], i: usize) -> u32
 // Eight bytes, all of them there.
 pub fn quad_at(bytes: &[u8], i: usize) -> u64
     requires { i + 8 ≤ length bytes.now }
-    ensures { result ≡ quadAt bytes.now i }
+    ensures { result ≡ quad_at bytes.now i }
 {
     u64_of(bytes[i])
         + u64_of(bytes[i + 1]) * 256
@@ -80,7 +80,7 @@ pub fn quad_at(bytes: &[u8], i: usize) -> u64
 // The two low bytes of a number.
 pub fn put_short(bytes: &mut [u8], at: usize, v: u32)
     requires { at + 2 ≤ length bytes.old }
-    ensures { bytes.new ≡ sets bytes.old at (shortBytes v) }
+    ensures { bytes.new ≡ sets bytes.old at (short_bytes v) }
 {
     bytes[at] = low_byte(v);
     bytes[at + 1] = low_byte(v / 256);
@@ -89,7 +89,7 @@ pub fn put_short(bytes: &mut [u8], at: usize, v: u32)
 // Four bytes.
 pub fn put_long(bytes: &mut [u8], at: usize, v: u32)
     requires { at + 4 ≤ length bytes.old }
-    ensures { bytes.new ≡ sets bytes.old at (longBytes v) }
+    ensures { bytes.new ≡ sets bytes.old at (long_bytes v) }
 {
     put_short(bytes, at, v);
     put_short(bytes, at + 2, v / 65536);
@@ -98,7 +98,7 @@ pub fn put_long(bytes: &mut [u8], at: usize, v: u32)
 // Eight bytes.
 pub fn put_quad(bytes: &mut [u8], at: usize, v: u64)
     requires { at + 8 ≤ length bytes.old }
-    ensures { bytes.new ≡ sets bytes.old at (quadBytes v) }
+    ensures { bytes.new ≡ sets bytes.old at (quad_bytes v) }
 {
     put_long(bytes, at, (v % 4294967296) as u32);
     put_long(bytes, at + 4, (v / 4294967296) as u32);

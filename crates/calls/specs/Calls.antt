@@ -2,18 +2,18 @@
 use Rattle.std.specs.Prelude.{ℕ, ◌+◌, ◌≡◌, Bool, true, false, List, [], ◌∷◌, leb, eqb, length, take, drop}
 use Rattle.std.proofs.Math.Option.{Option, none, some}
 use Rattle.base.specs.Checks.{if◌then◌else◌, all_of}
-use Rattle.base.specs.Refusals.{notRefused, refusal}
-use Rattle.camac.specs.Words.{address_of, directionOf, isEnhanced}
+use Rattle.base.specs.Refusals.{not_refused, refusal}
+use Rattle.camac.specs.Words.{address_of, direction_of, is_enhanced}
 use Rattle.camac.specs.declared.words.Command.{Command}
 use Rattle.camac.specs.declared.words.Transfer.{Transfer}
 use Rattle.camac.specs.declared.words.Transfer.TheVariants.{Single, Block, Enhanced, Inline}
 use Rattle.packing.specs.Packing.{word_at}
 use Rattle.base.specs.declared.Refusal.{Refusal}
 use Rattle.listfile.specs.declared.field.Instruction.TheVariants.{Camac, Jump, Literal, Halt}
-use Rattle.walk.specs.Walk.{Visit, onFrom}
+use Rattle.walk.specs.Walk.{Visit, on_from}
 use Rattle.walk.specs.Admission.{Plan, Prepared, unfit, ready, prepare}
-use Rattle.reply.specs.Replies.{replyOf, repliesIn, allFormed}
-use Rattle.reply.specs.Effect.{State, runOn, takeReply, state_of, zeroRecord}
+use Rattle.reply.specs.Replies.{reply_of, replies_in, all_formed}
+use Rattle.reply.specs.Effect.{State, run_on, take_reply, state_of, zero_record}
 use Rattle.calls.specs.Fit.{fits}
 use Rattle.reply.specs.declared.replies.Reply.{Reply}
 use Rattle.reply.specs.declared.records.Note.{Note}
@@ -28,8 +28,8 @@ use Rattle.camac.specs.declared.words.Direction.TheVariants.{Incoming, Outgoing,
 -- Refusals and records ---------------------------------------------------------------------------------------------------
 
 -- "a refused start or whole run gives a record marked ended, all else zero"
-abbrev pub refusedRecord : Record
-refusedRecord = zeroRecord true
+abbrev pub refused_record : Record
+refused_record = zero_record true
 
 -- the number of a yes or no
 abbrev pub number_of : Bool → ℕ
@@ -37,51 +37,51 @@ number_of b = if b then 1 else 0
 
 -- document 01's numbers of a record, in its order: "ended, instruction, words left, tries made, current N and A, both marks, operations,
 -- status, note of the last move"
-abbrev pub recordNumbers : Record → List ℕ
-recordNumbers r =
+abbrev pub record_numbers : Record → List ℕ
+record_numbers r =
     number_of r.ended ∷ r.spot.instruction ∷ r.left ∷ r.tries ∷ r.position.station ∷ r.position.subaddress
     ∷ r.marks.incoming ∷ r.marks.outgoing ∷ r.operations ∷ r.status ∷ r.note.buffer ∷ r.note.offset ∷ r.note.size ∷ []
 
 -- The operation wanted next ----------------------------------------------------------------------------------------------
 
 -- "after the end or a refusal all five are zero", and E1's sixth
-abbrev pub noOperation : Operation
-noOperation = record { crate_number = 0; station = 0; subaddress = 0; function = 0; word = 0; enhanced = false }
+abbrev pub no_operation : Operation
+no_operation = record { crate_number = 0; station = 0; subaddress = 0; function = 0; word = 0; enhanced = false }
 
 -- "data, which is the outgoing word that a write takes from its mark on, or the inline word, else zero"
-abbrev pub outgoingWord : Direction → Bool → ℕ → List ℕ → ℕ
-outgoingWord Incoming wide mark outgoing = 0
-outgoingWord Outgoing wide mark outgoing = word_at wide mark outgoing
-outgoingWord Neither wide mark outgoing = 0
+abbrev pub outgoing_word : Direction → Bool → ℕ → List ℕ → ℕ
+outgoing_word Incoming wide mark outgoing = 0
+outgoing_word Outgoing wide mark outgoing = word_at wide mark outgoing
+outgoing_word Neither wide mark outgoing = 0
 
-unfoldable pub wordWanted : Transfer → Bool → ℕ → List ℕ → ℕ
-wordWanted (Single q a) wide mark outgoing = outgoingWord (directionOf (Single q a)) wide mark outgoing
-wordWanted (Block q a n) wide mark outgoing = outgoingWord (directionOf (Block q a n)) wide mark outgoing
-wordWanted (Enhanced q a n) wide mark outgoing = outgoingWord (directionOf (Enhanced q a n)) wide mark outgoing
-wordWanted (Inline q a word) wide mark outgoing = word
+unfoldable pub word_wanted : Transfer → Bool → ℕ → List ℕ → ℕ
+word_wanted (Single q a) wide mark outgoing = outgoing_word (direction_of (Single q a)) wide mark outgoing
+word_wanted (Block q a n) wide mark outgoing = outgoing_word (direction_of (Block q a n)) wide mark outgoing
+word_wanted (Enhanced q a n) wide mark outgoing = outgoing_word (direction_of (Enhanced q a n)) wide mark outgoing
+word_wanted (Inline q a word) wide mark outgoing = word
 
 -- "the operation wanted next: crate, N, A, F and data", of an instruction at a record's position; it "gains a sixth number" (E1)
-unfoldable pub operationOf : Command → Record → List ℕ → Operation
-operationOf c r outgoing = record {
+unfoldable pub operation_of : Command → Record → List ℕ → Operation
+operation_of c r outgoing = record {
   crate_number = (address_of c.transfer).crate_number;
   station = r.position.station;
   subaddress = r.position.subaddress;
   function = (address_of c.transfer).function;
-  word = wordWanted c.transfer c.wide r.marks.outgoing outgoing;
-  enhanced = isEnhanced c.transfer;
+  word = word_wanted c.transfer c.wide r.marks.outgoing outgoing;
+  enhanced = is_enhanced c.transfer;
 }
 
-unfoldable pub wantedAt : List Visit → Record → List ℕ → Operation
-wantedAt [] r outgoing = noOperation
-wantedAt (v ∷ vs) r outgoing = elim v.instruction [
-  | Camac c ↦ operationOf c r outgoing
-  | Jump target ↦ noOperation
-  | Literal x ↦ noOperation
-  | Halt ↦ noOperation
+unfoldable pub wanted_at : List Visit → Record → List ℕ → Operation
+wanted_at [] r outgoing = no_operation
+wanted_at (v ∷ vs) r outgoing = elim v.instruction [
+  | Camac c ↦ operation_of c r outgoing
+  | Jump target ↦ no_operation
+  | Literal x ↦ no_operation
+  | Halt ↦ no_operation
 ]
 
-unfoldable pub wantedOf : Plan → State → Operation
-wantedOf p s = if s.run.ended then noOperation else wantedAt (onFrom s.run.spot p.visits) s.run s.outgoing
+unfoldable pub wanted_of : Plan → State → Operation
+wanted_of p s = if s.run.ended then no_operation else wanted_at (on_from s.run.spot p.visits) s.run s.outgoing
 
 -- Start and step ---------------------------------------------------------------------------------------------------------
 
@@ -92,64 +92,64 @@ pub record Called : Type 0 where
   pub state : State
 
 -- "A refusal yields number, place and zeros"; "Record and buffers keep their contents"
-abbrev pub refusedCall : Refusal → State → Called
-refusedCall r s = record { refusal = r; wanted = noOperation; state = s }
+abbrev pub refused_call : Refusal → State → Called
+refused_call r s = record { refusal = r; wanted = no_operation; state = s }
 
-abbrev pub takenCall : Plan → State → Called
-takenCall p s = record { refusal = notRefused; wanted = wantedOf p s; state = s }
+abbrev pub taken_call : Plan → State → Called
+taken_call p s = record { refusal = not_refused; wanted = wanted_of p s; state = s }
 
 -- the state in which an admitted list's run begins: "runs to the first operation or the end"
 unfoldable pub begun : Plan → List ℕ → List ℕ → State
-begun p incoming outgoing = runOn p.visits (state_of (zeroRecord false) incoming outgoing)
+begun p incoming outgoing = run_on p.visits (state_of (zero_record false) incoming outgoing)
 
-abbrev pub startPrepared : Prepared → List ℕ → List ℕ → Called
-startPrepared (unfit r) incoming outgoing = refusedCall r (state_of refusedRecord incoming outgoing)
-startPrepared (ready p) incoming outgoing = takenCall p (begun p incoming outgoing)
+abbrev pub start_prepared : Prepared → List ℕ → List ℕ → Called
+start_prepared (unfit r) incoming outgoing = refused_call r (state_of refused_record incoming outgoing)
+start_prepared (ready p) incoming outgoing = taken_call p (begun p incoming outgoing)
 
 -- "Start takes the list and both buffers and runs to the first operation or the end"
 unfoldable pub start_of : List ℕ → List ℕ → List ℕ → Called
-start_of list incoming outgoing = startPrepared (prepare list (length incoming) (length outgoing)) incoming outgoing
+start_of list incoming outgoing = start_prepared (prepare list (length incoming) (length outgoing)) incoming outgoing
 
 -- a reply taken at the first of the visits from the record's instruction on; a record that fits waits at a CAMAC instruction, so that
 -- nothing looks at the other values
-unfoldable pub takeFrom : ℕ → List Visit → Reply → State → State
-takeFrom limit [] reply s = s
-takeFrom limit (v ∷ rest) reply s = elim v.instruction [
-  | Camac c ↦ takeReply limit rest c reply s
+unfoldable pub take_from : ℕ → List Visit → Reply → State → State
+take_from limit [] reply s = s
+take_from limit (v ∷ rest) reply s = elim v.instruction [
+  | Camac c ↦ take_reply limit rest c reply s
   | Jump target ↦ s
   | Literal x ↦ s
   | Halt ↦ s
 ]
 
-unfoldable pub takeAt : Plan → Reply → State → State
-takeAt p reply s = takeFrom p.limit (onFrom s.run.spot p.visits) reply s
+unfoldable pub take_at : Plan → Reply → State → State
+take_at p reply s = take_from p.limit (on_from s.run.spot p.visits) reply s
 
 -- "22 reply not formed as above"
-abbrev pub stepReply : Plan → Option Reply → State → Called
-stepReply p none s = refusedCall (refusal 22) s
-stepReply p (some reply) s = takenCall p (takeAt p reply s)
+abbrev pub step_reply : Plan → Option Reply → State → Called
+step_reply p none s = refused_call (refusal 22) s
+step_reply p (some reply) s = taken_call p (take_at p reply s)
 
 -- "24 ended; 23 record doesn't fit; 22 reply not formed": in the order "then 10 over all fields, 11, 20, 21, 24, 23, 22"
-abbrev pub stepPrepared : Prepared → List ℕ → State → Called
-stepPrepared (unfit r) reply s = refusedCall r s
-stepPrepared (ready p) reply s =
-    if s.run.ended then refusedCall (refusal 24) s
-    else if fits p s.run then stepReply p (replyOf reply) s
-    else refusedCall (refusal 23) s
+abbrev pub step_prepared : Prepared → List ℕ → State → Called
+step_prepared (unfit r) reply s = refused_call r s
+step_prepared (ready p) reply s =
+    if s.run.ended then refused_call (refusal 24) s
+    else if fits p s.run then step_reply p (reply_of reply) s
+    else refused_call (refusal 23) s
 
 -- "Step takes list, record, buffers, one reply"
 unfoldable pub step_of : List ℕ → State → List ℕ → Called
-step_of list s reply = stepPrepared (prepare list (length s.incoming) (length s.outgoing)) reply s
+step_of list s reply = step_prepared (prepare list (length s.incoming) (length s.outgoing)) reply s
 
 -- what code answers for a call
-abbrev pub yieldOf : Called → Yield
-yieldOf c = record { refusal = c.refusal; run = c.state.run; wanted = c.wanted }
+abbrev pub yield_of : Called → Yield
+yield_of c = record { refusal = c.refusal; run = c.state.run; wanted = c.wanted }
 
 -- a call is answered as it is defined: its answer, and both lent buffers at its exit
 pub record Yields (called : Called) (y : Yield) (incoming outgoing : List ℕ) : Type 0 where
-  pub answer : y ≡ yieldOf called
-  pub incoming-bytes : incoming ≡ called.state.incoming
-  pub outgoing-bytes : outgoing ≡ called.state.outgoing
+  pub answer : y ≡ yield_of called
+  pub incoming_bytes : incoming ≡ called.state.incoming
+  pub outgoing_bytes : outgoing ≡ called.state.outgoing
 
 -- The whole run ----------------------------------------------------------------------------------------------------------
 
@@ -161,35 +161,35 @@ pub record RunThrough : Type 0 where
 
 -- "equals start and steps, and stops at the end or when replies run out; it reports how many it took". Nothing looks at a
 -- refused step here: the row was checked, and a record that start and steps reach fits (worst_count/specs/WorstCount:refusals).
-unfoldable pub stepsOver : List ℕ → List (List ℕ) → ℕ → State → RunThrough
-stepsOver list [] taken s = record { refusal = notRefused; taken = taken; state = s }
-stepsOver list (r ∷ rs) taken s =
-    if s.run.ended then record { refusal = notRefused; taken = taken; state = s }
-    else stepsOver list rs (taken + 1) (step_of list s r).state
+unfoldable pub steps_over : List ℕ → List (List ℕ) → ℕ → State → RunThrough
+steps_over list [] taken s = record { refusal = not_refused; taken = taken; state = s }
+steps_over list (r ∷ rs) taken s =
+    if s.run.ended then record { refusal = not_refused; taken = taken; state = s }
+    else steps_over list rs (taken + 1) (step_of list s r).state
 
-abbrev pub refusedRun : Refusal → List ℕ → List ℕ → RunThrough
-refusedRun r incoming outgoing = record { refusal = r; taken = 0; state = state_of refusedRecord incoming outgoing }
+abbrev pub refused_run : Refusal → List ℕ → List ℕ → RunThrough
+refused_run r incoming outgoing = record { refusal = r; taken = 0; state = state_of refused_record incoming outgoing }
 
 -- "22 .. a row with such a reply anywhere or not a multiple of 8"; "The whole run checks its entire row before starting, replies past
 -- the run's end included"
-abbrev pub runPrepared : Prepared → List ℕ → List ℕ → List ℕ → List ℕ → RunThrough
-runPrepared (unfit r) list incoming outgoing row = refusedRun r incoming outgoing
-runPrepared (ready p) list incoming outgoing row =
-    if allFormed (repliesIn row) then stepsOver list (repliesIn row) 0 (start_of list incoming outgoing).state
-    else refusedRun (refusal 22) incoming outgoing
+abbrev pub run_prepared : Prepared → List ℕ → List ℕ → List ℕ → List ℕ → RunThrough
+run_prepared (unfit r) list incoming outgoing row = refused_run r incoming outgoing
+run_prepared (ready p) list incoming outgoing row =
+    if all_formed (replies_in row) then steps_over list (replies_in row) 0 (start_of list incoming outgoing).state
+    else refused_run (refusal 22) incoming outgoing
 
 -- "A whole-run call takes a row of replies"
 unfoldable pub run_of : List ℕ → List ℕ → List ℕ → List ℕ → RunThrough
-run_of list incoming outgoing row = runPrepared (prepare list (length incoming) (length outgoing)) list incoming outgoing row
+run_of list incoming outgoing row = run_prepared (prepare list (length incoming) (length outgoing)) list incoming outgoing row
 
-abbrev pub ranOf : RunThrough → Ran
-ranOf x = record { refusal = x.refusal; taken = x.taken; run = x.state.run }
+abbrev pub ran_of : RunThrough → Ran
+ran_of x = record { refusal = x.refusal; taken = x.taken; run = x.state.run }
 
 -- a whole run is answered as it is defined: its answer, and both lent buffers at its exit
 pub record Runs (through : RunThrough) (r : Ran) (incoming outgoing : List ℕ) : Type 0 where
-  pub answer : r ≡ ranOf through
-  pub incoming-bytes : incoming ≡ through.state.incoming
-  pub outgoing-bytes : outgoing ≡ through.state.outgoing
+  pub answer : r ≡ ran_of through
+  pub incoming_bytes : incoming ≡ through.state.incoming
+  pub outgoing_bytes : outgoing ≡ through.state.outgoing
 
 -- Several replies from a record on ---------------------------------------------------------------------------------------
 
@@ -201,36 +201,36 @@ pub record Stepping : Type 0 where
   pub wanted : Operation
   pub state : State
 
-abbrev pub refusedSteps : Refusal → State → Stepping
-refusedSteps r s = record { refusal = r; taken = 0; wanted = noOperation; state = s }
+abbrev pub refused_steps : Refusal → State → Stepping
+refused_steps r s = record { refusal = r; taken = 0; wanted = no_operation; state = s }
 
-abbrev pub takenSteps : Plan → RunThrough → Stepping
-takenSteps p x = record { refusal = x.refusal; taken = x.taken; wanted = wantedOf p x.state; state = x.state }
+abbrev pub taken_steps : Plan → RunThrough → Stepping
+taken_steps p x = record { refusal = x.refusal; taken = x.taken; wanted = wanted_of p x.state; state = x.state }
 
 -- 22, as of the whole run: the entire row is checked before its first reply is taken
-abbrev pub stepsRow : Plan → List ℕ → List ℕ → State → Stepping
-stepsRow p list row s =
-    if allFormed (repliesIn row) then takenSteps p (stepsOver list (repliesIn row) 0 s) else refusedSteps (refusal 22) s
+abbrev pub steps_row : Plan → List ℕ → List ℕ → State → Stepping
+steps_row p list row s =
+    if all_formed (replies_in row) then taken_steps p (steps_over list (replies_in row) 0 s) else refused_steps (refusal 22) s
 
 -- 24, 23 and 22 as of a step
-abbrev pub stepsPrepared : Prepared → List ℕ → List ℕ → State → Stepping
-stepsPrepared (unfit r) list row s = refusedSteps r s
-stepsPrepared (ready p) list row s =
-    if s.run.ended then refusedSteps (refusal 24) s
-    else if fits p s.run then stepsRow p list row s
-    else refusedSteps (refusal 23) s
+abbrev pub steps_prepared : Prepared → List ℕ → List ℕ → State → Stepping
+steps_prepared (unfit r) list row s = refused_steps r s
+steps_prepared (ready p) list row s =
+    if s.run.ended then refused_steps (refusal 24) s
+    else if fits p s.run then steps_row p list row s
+    else refused_steps (refusal 23) s
 
 unfoldable pub steps_of : List ℕ → State → List ℕ → Stepping
-steps_of list s row = stepsPrepared (prepare list (length s.incoming) (length s.outgoing)) list row s
+steps_of list s row = steps_prepared (prepare list (length s.incoming) (length s.outgoing)) list row s
 
-abbrev pub steppedOf : Stepping → Stepped
-steppedOf x = record { refusal = x.refusal; taken = x.taken; run = x.state.run; wanted = x.wanted }
+abbrev pub stepped_of : Stepping → Stepped
+stepped_of x = record { refusal = x.refusal; taken = x.taken; run = x.state.run; wanted = x.wanted }
 
 -- steps are answered as they are defined: their answer, and both lent buffers at their exit
 pub record Steps (stepping : Stepping) (y : Stepped) (incoming outgoing : List ℕ) : Type 0 where
-  pub answer : y ≡ steppedOf stepping
-  pub incoming-bytes : incoming ≡ stepping.state.incoming
-  pub outgoing-bytes : outgoing ≡ stepping.state.outgoing
+  pub answer : y ≡ stepped_of stepping
+  pub incoming_bytes : incoming ≡ stepping.state.incoming
+  pub outgoing_bytes : outgoing ≡ stepping.state.outgoing
 
 -- The last moved word ----------------------------------------------------------------------------------------------------
 
@@ -252,16 +252,16 @@ part_of note bytes = record {
 }
 
 -- whether a note is of a word, and of one that lies in this buffer of so many bytes
-unfoldable pub liesIn : ℕ → ℕ → Note → Bool
-liesIn buffer end note =
+unfoldable pub lies_in : ℕ → ℕ → Note → Bool
+lies_in buffer end note =
     all_of (leb 1 note.size ∷ eqb note.buffer buffer ∷ leb (note.offset + note.size) end ∷ [])
 
 -- "The last moved word is shown as a part of whichever buffer carried it", "or an empty incoming part if none or if the note lies
 -- outside"
-unfoldable pub lastMoved : Note → List ℕ → List ℕ → Part
-lastMoved note incoming outgoing =
-    if liesIn 0 (length incoming) note then part_of note incoming
-    else if liesIn 1 (length outgoing) note then part_of note outgoing
+unfoldable pub last_moved : Note → List ℕ → List ℕ → Part
+last_moved note incoming outgoing =
+    if lies_in 0 (length incoming) note then part_of note incoming
+    else if lies_in 1 (length outgoing) note then part_of note outgoing
     else no_part
 
 -- where a part lies, by where the two buffers lie: the block, and the offset in it

@@ -2,9 +2,9 @@
 ghost use Rattle.std.specs.Prelude.{◌≡◌, ◌+◌, ◌^◌, ◌≤◌, leb};
 ghost use Rattle.camac.specs.Words.{words_of};
 ghost use Rattle.packing.specs.model.Marks.{MarksTo};
-ghost use Rattle.walk.specs.Walk.{movedWords};
-ghost use Rattle.calls.specs.Fit.{markFits, marksFit, noteFits, fitsAt};
-ghost use Rattle.calls.specs.model.Bounds.{Bounded, fitsCommand, fitsWalk};
+ghost use Rattle.walk.specs.Walk.{moved_words};
+ghost use Rattle.calls.specs.Fit.{mark_fits, marks_fit, note_fits, fits_at};
+ghost use Rattle.calls.specs.model.Bounds.{Bounded, fits_command, fits_walk};
 
 use camac::{Command, Direction};
 use packing::Marks;
@@ -13,7 +13,7 @@ use reply::{Note, Record};
 // The marks after some words. A block has at most 65,536 words, and admission's marks are even and below 2^60.
 pub fn moved_words(words: u64, c: Command, m: Marks) -> Marks
     requires { (words ≤ 2 ^ 16) × MarksTo (2 ^ 60) m }
-    ensures { result ≡ movedWords words c m }
+    ensures { result ≡ moved_words words c m }
 {
     let t = c.transfer;
     let d = camac::direction_of(t);
@@ -41,7 +41,7 @@ pub fn moved_words(words: u64, c: Command, m: Marks) -> Marks
 
 // Whether a mark may be a record's where the walk's is `old`.
 fn mark_fits(mark: usize, old: usize) -> bool
-    ensures { result ≡ markFits mark old }
+    ensures { result ≡ mark_fits mark old }
 {
     (mark % 2 == 0) & (mark <= old)
 }
@@ -50,7 +50,7 @@ fn mark_fits(mark: usize, old: usize) -> bool
 // the instruction has.
 fn marks_fit(c: Command, m: Marks, r: Record) -> bool
     requires { (words_of c.transfer ≤ 2 ^ 16) × (MarksTo (2 ^ 60) m × (r.left ≤ words_of c.transfer)) }
-    ensures { result ≡ marksFit c m r }
+    ensures { result ≡ marks_fit c m r }
 {
     let t = c.transfer;
     let marks = r.marks;
@@ -70,7 +70,7 @@ pub(crate) fn is_within(offset: usize, size: usize, end: usize) -> bool
 }
 
 fn note_fits(note: Note, m: Marks) -> bool
-    ensures { result ≡ noteFits note m }
+    ensures { result ≡ note_fits note m }
 {
     let zeros = (note.buffer == 0) & (note.offset == 0) & (note.size == 0);
     let word = (note.size == 2) | (note.size == 4);
@@ -81,7 +81,7 @@ fn note_fits(note: Note, m: Marks) -> bool
 
 // Whether a record by itself fits an instruction.
 fn fits_command(limit: usize, c: Command, r: Record) -> bool
-    ensures { result ≡ fitsCommand limit c r }
+    ensures { result ≡ fits_command limit c r }
 {
     let t = c.transfer;
     let q = camac::qmode_of(t);
@@ -101,7 +101,7 @@ fn fits_command(limit: usize, c: Command, r: Record) -> bool
 // Whether the marks and operations of a record that fits an instruction are those of the walk.
 fn fits_walk(limit: usize, worst: u64, c: Command, m: Marks, rest: u64, r: Record) -> bool
     requires { Bounded limit c m rest × (r.left ≤ words_of c.transfer) }
-    ensures { result ≡ fitsWalk limit worst c m rest r }
+    ensures { result ≡ fits_walk limit worst c m rest r }
 {
     let t = c.transfer;
     let q = camac::qmode_of(t);
@@ -113,7 +113,7 @@ fn fits_walk(limit: usize, worst: u64, c: Command, m: Marks, rest: u64, r: Recor
 // Whether a record fits at an instruction of the walk. R, the words, the marks and the sum after are an admitted list's.
 pub fn fits_at(limit: usize, worst: u64, c: Command, m: Marks, rest: u64, r: Record) -> bool
     requires { Bounded limit c m rest }
-    ensures { result ≡ fitsAt limit worst c m rest r }
+    ensures { result ≡ fits_at limit worst c m rest r }
 {
     if fits_command(limit, c, r) {
         return fits_walk(limit, worst, c, m, rest, r);

@@ -1,6 +1,6 @@
 // The operation wanted next.
 ghost use Rattle.std.specs.Prelude.{◌≡◌, ◌^◌, ◌<◌};
-ghost use Rattle.calls.specs.Calls.{noOperation, wordWanted, operationOf, outgoingWord};
+ghost use Rattle.calls.specs.Calls.{no_operation, word_wanted, operation_of, outgoing_word};
 
 use camac::{Command, Direction, Transfer};
 use reply::Record;
@@ -17,7 +17,7 @@ pub struct Operation {
 }
 
 pub fn no_operation() -> Operation
-    ensures { result ≡ noOperation }
+    ensures { result ≡ no_operation }
 {
     Operation {
         crate_number: 0,
@@ -32,7 +32,7 @@ pub fn no_operation() -> Operation
 // The word that a write takes. Every mark is below 2^63: it counts bytes of a buffer.
 fn outgoing_word(d: Direction, wide: bool, mark: usize, outgoing: &[u8]) -> u32
     requires { mark < 2 ^ 63 }
-    ensures { result ≡ outgoingWord d wide mark outgoing.now }
+    ensures { result ≡ outgoing_word d wide mark outgoing.now }
 {
     match d {
         Direction::Incoming => 0,
@@ -44,7 +44,7 @@ fn outgoing_word(d: Direction, wide: bool, mark: usize, outgoing: &[u8]) -> u32
 // The data of the operation wanted. Every mark is below 2^63: it counts bytes of a buffer.
 fn word_wanted(t: Transfer, wide: bool, mark: usize, outgoing: &[u8]) -> u32
     requires { mark < 2 ^ 63 }
-    ensures { result ≡ wordWanted t wide mark outgoing.now }
+    ensures { result ≡ word_wanted t wide mark outgoing.now }
 {
     match t {
         Transfer::Single(_, _) => outgoing_word(camac::direction_of(t), wide, mark, outgoing),
@@ -57,7 +57,7 @@ fn word_wanted(t: Transfer, wide: bool, mark: usize, outgoing: &[u8]) -> u32
 // The operation that a record waits for. Every mark is below 2^63: it counts bytes of a buffer.
 pub fn operation_of(c: Command, r: Record, outgoing: &[u8]) -> Operation
     requires { r.marks.outgoing < 2 ^ 63 }
-    ensures { result ≡ operationOf c r outgoing.now }
+    ensures { result ≡ operation_of c r outgoing.now }
 {
     let t = c.transfer;
     let a = camac::address_of(t);

@@ -1,7 +1,7 @@
 // CAMAC words: the decode of an instruction's longwords, refusals 6 to 9.
 ghost use Rattle.std.specs.Prelude.{◌≡◌, ℕ, eqb, length};
 ghost use Rattle.base.specs.Checks.{if◌then◌else◌};
-ghost use Rattle.camac.specs.Words.{modeIn, qmodeBits, qmodeNumbered, qmodeIn, addressIn, isControl, isWrite, halfwords, blockWords, transferIn, commandIn, qmodeOf, address_of, words_of, directionBy, enhancedDirection, directionOf, isEnhanced, isBlock, position_of, zeroBitSet, badAddress, isSequencerAt, badEnhanced, badMode, badCount, aboveWord, badSecond, aboveP, camacFault, decodeOf};
+ghost use Rattle.camac.specs.Words.{mode_in, qmode_bits, qmode_numbered, qmode_in, address_in, is_control, is_write, halfwords, block_words, transfer_in, command_in, qmode_of, address_of, words_of, direction_by, enhanced_direction, direction_of, is_enhanced, is_block, position_of, zero_bit_set, bad_address, is_sequencer_at, bad_enhanced, bad_mode, bad_count, above_word, bad_second, above_p, camac_fault, decode_of};
 
 use crate::bits::{has_ad, is_scan_block, is_sequencer, is_wide, mode_in, start_in, words_in};
 use qmodes::{QMode, ScanPosition, is_scan};
@@ -49,7 +49,7 @@ pub enum Decoded {
 
 // The Q-mode by its number alone.
 pub fn numbered_qmode(first: u32) -> QMode
-    ensures { result ≡ qmodeNumbered (qmodeBits first) }
+    ensures { result ≡ qmode_numbered (qmode_bits first) }
 {
     match (first >> 3) % 4 {
         0 => QMode::Stop,
@@ -61,7 +61,7 @@ pub fn numbered_qmode(first: u32) -> QMode
 
 // Q-mode 3: scan, or the list sequencer in transfer mode 2. The other numbers need not ask.
 fn third_qmode(first: u32) -> QMode
-    ensures { result ≡ (if eqb (modeIn first) 2 then QMode.Ignore else QMode.Scan) }
+    ensures { result ≡ (if eqb (mode_in first) 2 then QMode.Ignore else QMode.Scan) }
 {
     if mode_in(first) == 2 {
         return QMode::Ignore;
@@ -70,7 +70,7 @@ fn third_qmode(first: u32) -> QMode
 }
 
 pub fn qmode_in(first: u32) -> QMode
-    ensures { result ≡ qmodeIn first }
+    ensures { result ≡ qmode_in first }
 {
     match (first >> 3) % 4 {
         0 => QMode::Stop,
@@ -81,7 +81,7 @@ pub fn qmode_in(first: u32) -> QMode
 }
 
 pub(crate) fn address_in(first: u32) -> Address
-    ensures { result ≡ addressIn first }
+    ensures { result ≡ address_in first }
 {
     Address {
         crate_number: ((first >> 8) % 64) as u8,
@@ -92,13 +92,13 @@ pub(crate) fn address_in(first: u32) -> Address
 }
 
 fn is_control(f: u8) -> bool
-    ensures { result ≡ isControl f }
+    ensures { result ≡ is_control f }
 {
     f / 8 % 2 == 1
 }
 
 fn is_write(f: u8) -> bool
-    ensures { result ≡ isWrite f }
+    ensures { result ≡ is_write f }
 {
     if is_control(f) {
         return false;
@@ -114,7 +114,7 @@ fn halfwords_in(second: u32) -> u64
 }
 
 pub(crate) fn block_words(wide: bool, second: u32) -> u64
-    ensures { result ≡ blockWords wide second }
+    ensures { result ≡ block_words wide second }
 {
     if wide {
         return halfwords_in(second) / 2;
@@ -123,7 +123,7 @@ pub(crate) fn block_words(wide: bool, second: u32) -> u64
 }
 
 fn transfer_in(mode: u32, q: QMode, a: Address, wide: bool, second: u32) -> Transfer
-    ensures { result ≡ transferIn mode q a wide second }
+    ensures { result ≡ transfer_in mode q a wide second }
 {
     match mode {
         0 => Transfer::Single(q, a),
@@ -135,7 +135,7 @@ fn transfer_in(mode: u32, q: QMode, a: Address, wide: bool, second: u32) -> Tran
 
 // The instruction of a CAMAC field's longwords, whether or not it is refused.
 pub fn command_in(first: u32, second: u32) -> Command
-    ensures { result ≡ commandIn first second }
+    ensures { result ≡ command_in first second }
 {
     let q = qmode_in(first);
     let a = address_in(first);
@@ -149,8 +149,8 @@ pub fn command_in(first: u32, second: u32) -> Command
 
 // The instruction of a single's first longword, whatever its second.
 pub fn single_in(first: u32) -> Command
-    requires { modeIn first ≡ 0 }
-    ensures { (second : ℕ) → result ≡ commandIn first second }
+    requires { mode_in first ≡ 0 }
+    ensures { (second : ℕ) → result ≡ command_in first second }
 {
     let a = address_in(first);
     Command {
@@ -161,7 +161,7 @@ pub fn single_in(first: u32) -> Command
 }
 
 pub fn qmode_of(t: Transfer) -> QMode
-    ensures { result ≡ qmodeOf t }
+    ensures { result ≡ qmode_of t }
 {
     match t {
         Transfer::Single(q, _) => q,
@@ -195,7 +195,7 @@ pub fn words_of(t: Transfer) -> u64
 }
 
 fn direction_by(f: u8) -> Direction
-    ensures { result ≡ directionBy f }
+    ensures { result ≡ direction_by f }
 {
     if is_control(f) {
         return Direction::Neither;
@@ -208,7 +208,7 @@ fn direction_by(f: u8) -> Direction
 
 // An enhanced block's: a list sequencer's is told by A.
 fn enhanced_direction(a: Address) -> Direction
-    ensures { result ≡ enhancedDirection a }
+    ensures { result ≡ enhanced_direction a }
 {
     if is_control(a.function) {
         if a.subaddress < 2 {
@@ -220,7 +220,7 @@ fn enhanced_direction(a: Address) -> Direction
 }
 
 pub fn direction_of(t: Transfer) -> Direction
-    ensures { result ≡ directionOf t }
+    ensures { result ≡ direction_of t }
 {
     match t {
         Transfer::Single(_, a) => direction_by(a.function),
@@ -231,7 +231,7 @@ pub fn direction_of(t: Transfer) -> Direction
 }
 
 pub fn is_enhanced(t: Transfer) -> bool
-    ensures { result ≡ isEnhanced t }
+    ensures { result ≡ is_enhanced t }
 {
     match t {
         Transfer::Single(_, _) => false,
@@ -242,7 +242,7 @@ pub fn is_enhanced(t: Transfer) -> bool
 }
 
 pub fn is_block_of(t: Transfer) -> bool
-    ensures { result ≡ isBlock t }
+    ensures { result ≡ is_block t }
 {
     match t {
         Transfer::Single(_, _) => false,
@@ -264,7 +264,7 @@ pub fn position_of(t: Transfer) -> ScanPosition
 }
 
 fn is_zero_bit_set(first: u32) -> bool
-    ensures { result ≡ zeroBitSet first }
+    ensures { result ≡ zero_bit_set first }
 {
     if (first >> 31) % 2 == 1 {
         return true;
@@ -285,7 +285,7 @@ fn is_zero_bit_set(first: u32) -> bool
 }
 
 fn is_bad_address(first: u32) -> bool
-    ensures { result ≡ badAddress first }
+    ensures { result ≡ bad_address first }
 {
     let a = address_in(first);
     let c = a.crate_number;
@@ -310,7 +310,7 @@ fn is_bad_address(first: u32) -> bool
 
 // Whether N, A and F are of one of the list sequencer's four instructions.
 fn is_sequencer_at(a: Address) -> bool
-    ensures { result ≡ isSequencerAt a }
+    ensures { result ≡ is_sequencer_at a }
 {
     if a.station != 30 {
         return false;
@@ -322,7 +322,7 @@ fn is_sequencer_at(a: Address) -> bool
 }
 
 fn is_bad_enhanced(first: u32) -> bool
-    ensures { result ≡ badEnhanced first }
+    ensures { result ≡ bad_enhanced first }
 {
     let a = address_in(first);
     if is_sequencer(first) {
@@ -339,8 +339,8 @@ fn is_bad_enhanced(first: u32) -> bool
 
 // 8 of a field that is no single.
 fn is_bad_mode(length: usize, first: u32) -> bool
-    requires { ¬ (modeIn first ≡ 0) }
-    ensures { result ≡ badMode length first }
+    requires { ¬ (mode_in first ≡ 0) }
+    ensures { result ≡ bad_mode length first }
 {
     let a = address_in(first);
     let mode = mode_in(first);
@@ -357,7 +357,7 @@ fn is_bad_mode(length: usize, first: u32) -> bool
 }
 
 fn is_bad_count(wide: bool, second: u32) -> bool
-    ensures { result ≡ badCount wide second }
+    ensures { result ≡ bad_count wide second }
 {
     let h = halfwords_in(second);
     if second == 0 {
@@ -373,7 +373,7 @@ fn is_bad_count(wide: bool, second: u32) -> bool
 }
 
 fn is_above_word(wide: bool, second: u32) -> bool
-    ensures { result ≡ aboveWord wide second }
+    ensures { result ≡ above_word wide second }
 {
     if wide {
         return 1 << 24 <= second;
@@ -383,8 +383,8 @@ fn is_above_word(wide: bool, second: u32) -> bool
 
 // 9 of a field that is no single, but for n above P.
 fn is_bad_second(first: u32, second: u32) -> bool
-    requires { ¬ (modeIn first ≡ 0) }
-    ensures { result ≡ badSecond first second }
+    requires { ¬ (mode_in first ≡ 0) }
+    ensures { result ≡ bad_second first second }
 {
     let wide = is_wide(first);
     if mode_in(first) == 3 {
@@ -394,14 +394,14 @@ fn is_bad_second(first: u32, second: u32) -> bool
 }
 
 fn is_above_p(first: u32, second: u32) -> bool
-    ensures { result ≡ aboveP (commandIn first second).transfer }
+    ensures { result ≡ above_p (command_in first second).transfer }
 {
     start_in(first).positions_left() < words_in(first, second)
 }
 
 // Refusals 6 to 9 of a CAMAC field's body, 0 where it passes. One word is never above P: every position has itself left.
 pub fn camac_fault(length: usize, first: u32, second: u32) -> u8
-    ensures { result ≡ camacFault length first second }
+    ensures { result ≡ camac_fault length first second }
 {
     if is_zero_bit_set(first) {
         return 6;
@@ -432,7 +432,7 @@ pub fn camac_fault(length: usize, first: u32, second: u32) -> u8
 
 // A CAMAC field's body decoded, or refused by 6 to 9.
 pub fn decode(length: usize, first: u32, second: u32) -> Decoded
-    ensures { result ≡ decodeOf length first second }
+    ensures { result ≡ decode_of length first second }
 {
     let fault = camac_fault(length, first, second);
     if fault != 0 {

@@ -8,81 +8,81 @@ use native.Mathlib.Omega.{arith}
 use borrow.Author.Tests.{eq-eqb, ne_eqb}
 use lib.Dec.{eqb}
 use lib.ListN.{set, get_or}
-use Rattle.base.specs.Bytes.{byteAt}
+use Rattle.base.specs.Bytes.{byte_at}
 use Rattle.base.proofs.Tests.{on}
 use Rattle.demands.specs.declared.Demand.{Demand}
 use Rattle.demands.specs.declared.Queued.{Queued}
 use Rattle.demands.specs.declared.Next.{Next}
 use Rattle.demands.specs.declared.Next.TheVariants.{Nothing, Oldest}
-use Rattle.demands.specs.Demands.{demandOf, firstIn, waitingNumber, withFirst, withWaiting, withMark, isQueue, cell_of, demandAt, withDemand, isCrate, is_row, demandsIn, addedTo, addedAll, Outcome, answer_in, leaving, refusedAnswer, refusing, addOf, row_of, takenFrom, take_of, clearOf}
+use Rattle.demands.specs.Demands.{demand_of, first_in, waiting_number, with_first, with_waiting, with_mark, is_queue, cell_of, demand_at, with_demand, is_crate, is_row, demands_in, added_to, added_all, Outcome, answer_in, leaving, refused_answer, refusing, add_of, row_of, taken_from, take_of, clear_of}
 use Rattle.demands.proofs.LayoutLaws.{Limits}
 
 -- One demand -------------------------------------------------------------------------------------------------------------
 
-module _ (q : List ℕ) {n : ℕ} (e : n ≡ waitingNumber q) where
-  pub added_full : (d : Demand) → n ≡ 2048 → withMark 1 q ≡ addedTo q d
-  unfolding addedTo
-  added_full d h = rw (eq-eqb (waitingNumber q) 2048 (omega (arith, e, h)))
+module _ (q : List ℕ) {n : ℕ} (e : n ≡ waiting_number q) where
+  pub added_full : (d : Demand) → n ≡ 2048 → with_mark 1 q ≡ added_to q d
+  unfolding added_to
+  added_full d h = rw (eq-eqb (waiting_number q) 2048 (omega (arith, e, h)))
 
-  pub added-room : (d : Demand) {f : ℕ} → f ≡ firstIn q → ¬ (n ≡ 2048)
-      → withWaiting (n + 1) (set (set q (cell_of (f + n) * 2) d.crate_number) (cell_of (f + n) * 2 + 1) d.sgl) ≡ addedTo q d
-  unfolding addedTo withDemand
-  added-room d g h = rw (g, e, ne_eqb (waitingNumber q) 2048 (λ t. h (e ∙ t)), add-one (cell_of (firstIn q + waitingNumber q) * 2))
+  pub added_room : (d : Demand) {f : ℕ} → f ≡ first_in q → ¬ (n ≡ 2048)
+      → with_waiting (n + 1) (set (set q (cell_of (f + n) * 2) d.crate_number) (cell_of (f + n) * 2 + 1) d.sgl) ≡ added_to q d
+  unfolding added_to with_demand
+  added_room d g h = rw (g, e, ne_eqb (waiting_number q) 2048 (λ t. h (e ∙ t)), add-one (cell_of (first_in q + waiting_number q) * 2))
 
-  pub taken_none : n ≡ 0 → takenFrom q ≡ leaving Nothing q
-  taken_none h = rw (eq-eqb (waitingNumber q) 0 (omega (arith, e, h)))
+  pub taken_none : n ≡ 0 → taken_from q ≡ leaving Nothing q
+  taken_none h = rw (eq-eqb (waiting_number q) 0 (omega (arith, e, h)))
 
-  pub taken-one : (l : Limits q) {f : ℕ} → f ≡ firstIn q → ¬ (n ≡ 0)
-      → takenFrom q ≡ leaving (Oldest (demandOf (get_or q (f * 2) 0) (get_or q (f * 2 + 1) 0))) (withFirst (cell_of (f + 1)) (withWaiting (n - 1) q))
-  unfolding demandAt byteAt
-  taken-one l g h =
-      let cell : cell_of (firstIn q) ≡ firstIn q = omega (arith, l.first_below) in
-      rw (g, e, ne_eqb (waitingNumber q) 0 (λ t. h (e ∙ t)), cell)
+  pub taken_one : (l : Limits q) {f : ℕ} → f ≡ first_in q → ¬ (n ≡ 0)
+      → taken_from q ≡ leaving (Oldest (demand_of (get_or q (f * 2) 0) (get_or q (f * 2 + 1) 0))) (with_first (cell_of (f + 1)) (with_waiting (n - 1) q))
+  unfolding demand_at byte_at
+  taken_one l g h =
+      let cell : cell_of (first_in q) ≡ first_in q = omega (arith, l.first_below) in
+      rw (g, e, ne_eqb (waiting_number q) 0 (λ t. h (e ∙ t)), cell)
 
 -- A call refused or not --------------------------------------------------------------------------------------------------
 
 module _ (q : List ℕ) (d : Demand) where
-  pub add-refused : isQueue q && isCrate d.crate_number ≡ false → addOf q d ≡ refusing q
-  unfolding addOf
-  add-refused t = rw t
+  pub add_refused : is_queue q && is_crate d.crate_number ≡ false → add_of q d ≡ refusing q
+  unfolding add_of
+  add_refused t = rw t
 
-  pub add_left : isQueue q && isCrate d.crate_number ≡ true → addOf q d ≡ leaving Nothing (addedTo q d)
-  unfolding addOf
+  pub add_left : is_queue q && is_crate d.crate_number ≡ true → add_of q d ≡ leaving Nothing (added_to q d)
+  unfolding add_of
   add_left t = rw t
 
 module _ (q row : List ℕ) where
-  pub row-refused : isQueue q && is_row row ≡ false → row_of q row ≡ refusing q
+  pub row_refused : is_queue q && is_row row ≡ false → row_of q row ≡ refusing q
   unfolding row_of
-  row-refused t = rw t
+  row_refused t = rw t
 
-  pub row-left : isQueue q && is_row row ≡ true → row_of q row ≡ leaving Nothing (addedAll q (demandsIn row))
+  pub row_left : is_queue q && is_row row ≡ true → row_of q row ≡ leaving Nothing (added_all q (demands_in row))
   unfolding row_of
-  row-left t = rw t
+  row_left t = rw t
 
 module _ (q : List ℕ) where
-  pub take-refused : isQueue q ≡ false → take_of q ≡ refusing q
+  pub take_refused : is_queue q ≡ false → take_of q ≡ refusing q
   unfolding take_of
-  take-refused t = rw t
+  take_refused t = rw t
 
-  pub take_left : isQueue q ≡ true → take_of q ≡ takenFrom q
+  pub take_left : is_queue q ≡ true → take_of q ≡ taken_from q
   unfolding take_of
   take_left t = rw t
 
-  pub clear-refused : isQueue q ≡ false → clearOf q ≡ refusing q
-  unfolding clearOf
-  clear-refused t = rw t
+  pub clear_refused : is_queue q ≡ false → clear_of q ≡ refusing q
+  unfolding clear_of
+  clear_refused t = rw t
 
-  pub clear-left : isQueue q ≡ true → clearOf q ≡ leaving Nothing (withWaiting 0 (withMark 0 q))
-  unfolding clearOf
-  clear-left t = rw t
+  pub clear_left : is_queue q ≡ true → clear_of q ≡ leaving Nothing (with_waiting 0 (with_mark 0 q))
+  unfolding clear_of
+  clear_left t = rw t
 
 -- what taking leaves is answered as it is
-pub taken-answer : (q : List ℕ) → answer_in (takenFrom q).queue ≡ (takenFrom q).queued
-taken-answer q = on (eqb (waitingNumber q) 0) (λ t. rw t) (λ t. rw t)
+pub taken_answer : (q : List ℕ) → answer_in (taken_from q).queue ≡ (taken_from q).queued
+taken_answer q = on (eqb (waiting_number q) 0) (λ t. rw t) (λ t. rw t)
 
 -- the parts of an outcome
-pub refused-parts : {o : Outcome} {q : List ℕ} {r : Queued} → o ≡ refusing q → r ≡ refusedAnswer → (r ≡ o.queued) × (q ≡ o.queue)
-refused-parts e f = (f ∙ ap (λ (o : Outcome). o.queued) (sym e), ap (λ (o : Outcome). o.queue) (sym e))
+pub refused_parts : {o : Outcome} {q : List ℕ} {r : Queued} → o ≡ refusing q → r ≡ refused_answer → (r ≡ o.queued) × (q ≡ o.queue)
+refused_parts e f = (f ∙ ap (λ (o : Outcome). o.queued) (sym e), ap (λ (o : Outcome). o.queue) (sym e))
 
-pub left-parts : {o : Outcome} {next : Next} {q q' : List ℕ} {r : Queued} → o ≡ leaving next q → q' ≡ q → r ≡ answer_in q' → (r ≡ o.queued) × (q' ≡ o.queue)
-left-parts e f g = (g ∙ ap answer_in f ∙ ap (λ (o : Outcome). o.queued) (sym e), f ∙ ap (λ (o : Outcome). o.queue) (sym e))
+pub left_parts : {o : Outcome} {next : Next} {q q' : List ℕ} {r : Queued} → o ≡ leaving next q → q' ≡ q → r ≡ answer_in q' → (r ≡ o.queued) × (q' ≡ o.queue)
+left_parts e f g = (g ∙ ap answer_in f ∙ ap (λ (o : Outcome). o.queued) (sym e), f ∙ ap (λ (o : Outcome). o.queue) (sym e))

@@ -1,21 +1,21 @@
 -- The worked examples hold: both sides of each equation compute to the same.
 use mathlib.Core.Path.{refl}
-use Rattle.base.specs.Bytes.{byteAt, short_at}
-use Rattle.demands.specs.Demands.{isQueue, demandAt, withDemand, addedTo, addedAll, demandsIn, is_row, addOf, row_of, take_of, clearOf}
+use Rattle.base.specs.Bytes.{byte_at, short_at}
+use Rattle.demands.specs.Demands.{is_queue, demand_at, with_demand, added_to, added_all, demands_in, is_row, add_of, row_of, take_of, clear_of}
 use Rattle.demands.specs.Kept.{empty}
 use Rattle.demands.specs.Examples.{Examples}
 
 pub examples : Examples
-unfolding byteAt short_at isQueue demandAt withDemand addedTo addedAll demandsIn is_row addOf row_of take_of clearOf empty
+unfolding byte_at short_at is_queue demand_at with_demand added_to added_all demands_in is_row add_of row_of take_of clear_of empty
 examples = record {
   none = refl;
   crates = refl;
   rows = refl;
   three = refl;
   full = refl;
-  full-refused = refl;
-  room-for-one = refl;
+  full_refused = refl;
+  room_for_one = refl;
   round = refl;
-  no-queue = refl;
+  no_queue = refl;
   too_short = refl;
 }

@@ -14,189 +14,189 @@ use Rattle.base.proofs.Tests.{on}
 use Rattle.demands.specs.declared.Demand.{Demand}
 use Rattle.demands.specs.declared.Next.{Next}
 use Rattle.demands.specs.declared.Next.TheVariants.{Nothing, Oldest}
-use Rattle.demands.specs.Demands.{firstIn, waitingNumber, markIn, withFirst, withWaiting, withMark, withDemand, isQueue, cell_of, demandAt, waitingFrom, waitingIn, keptBehind, addedTo, addedAll, takenFrom}
-use Rattle.demands.specs.Kept.{staying, dropped, markFor, yielded, oldestOf}
-use Rattle.demands.proofs.LayoutLaws.{Says, Limits, limits, says, is-queue, first-put, waiting-put, mark-put, demand-put, first-cells, waiting-cells, mark-cells, cell-put, cell_other, cell-round}
+use Rattle.demands.specs.Demands.{first_in, waiting_number, mark_in, with_first, with_waiting, with_mark, with_demand, is_queue, cell_of, demand_at, waiting_from, waiting_in, kept_behind, added_to, added_all, taken_from}
+use Rattle.demands.specs.Kept.{staying, dropped, mark_for, yielded, oldest_of}
+use Rattle.demands.proofs.LayoutLaws.{Says, Limits, limits, says, is_queue_lem, first_put, waiting_put, mark_put, demand_put, first_cells, waiting_cells, mark_cells, cell_put, cell_other, cell_round}
 
 -- From a place on --------------------------------------------------------------------------------------------------------
 
-pub length-waiting : (q : List ℕ) (k n : ℕ) → length (waitingFrom q k n) ≡ n
-unfolding waitingFrom
-length-waiting q k zero = refl
-length-waiting q k (suc n) = ap suc (length-waiting q (suc k) n)
+pub length_waiting : (q : List ℕ) (k n : ℕ) → length (waiting_from q k n) ≡ n
+unfolding waiting_from
+length_waiting q k zero = refl
+length_waiting q k (suc n) = ap suc (length_waiting q (suc k) n)
 
 -- cells that are the same, in two queues or around
-waiting-same : (q q' : List ℕ) (k k' n : ℕ) → ((j : ℕ) → j < n → demandAt q (k + j) ≡ demandAt q' (k' + j)) → waitingFrom q k n ≡ waitingFrom q' k' n
-unfolding waitingFrom
-waiting-same q q' k k' zero h = refl
-waiting-same q q' k k' (suc n) h =
-    let here : demandAt q k ≡ demandAt q' k' = ap (demandAt q) (sym (add-zero k)) ∙ h 0 (omega arith) ∙ ap (demandAt q') (add-zero k') in
-    ap₂ (λ (d : Demand) (ds : List Demand). d ∷ ds) here (waiting-same q q' (suc k) (suc k') n (λ j b. next j b))
+waiting_same : (q q' : List ℕ) (k k' n : ℕ) → ((j : ℕ) → j < n → demand_at q (k + j) ≡ demand_at q' (k' + j)) → waiting_from q k n ≡ waiting_from q' k' n
+unfolding waiting_from
+waiting_same q q' k k' zero h = refl
+waiting_same q q' k k' (suc n) h =
+    let here : demand_at q k ≡ demand_at q' k' = ap (demand_at q) (sym (add-zero k)) ∙ h 0 (omega arith) ∙ ap (demand_at q') (add-zero k') in
+    ap₂ (λ (d : Demand) (ds : List Demand). d ∷ ds) here (waiting_same q q' (suc k) (suc k') n (λ j b. next j b))
   where
-    next : (j : ℕ) → j < n → demandAt q (suc k + j) ≡ demandAt q' (suc k' + j)
+    next : (j : ℕ) → j < n → demand_at q (suc k + j) ≡ demand_at q' (suc k' + j)
     next j b =
         let one : suc k + j ≡ k + suc j = omega arith in
         let other : suc k' + j ≡ k' + suc j = omega arith in
         rw (one, other) (h (suc j) (omega arith))
 
-waiting-more : (q : List ℕ) (k n : ℕ) → waitingFrom q k (suc n) ≡ waitingFrom q k n ++ demandAt q (k + n) ∷ []
-unfolding waitingFrom
-waiting-more q k zero = ap (λ (j : ℕ). demandAt q j ∷ []) (sym (add-zero k))
-waiting-more q k (suc n) =
+waiting_more : (q : List ℕ) (k n : ℕ) → waiting_from q k (suc n) ≡ waiting_from q k n ++ demand_at q (k + n) ∷ []
+unfolding waiting_from
+waiting_more q k zero = ap (λ (j : ℕ). demand_at q j ∷ []) (sym (add-zero k))
+waiting_more q k (suc n) =
     let next : suc k + n ≡ k + suc n = omega arith in
-    ap (λ (ds : List Demand). demandAt q k ∷ ds) (waiting-more q (suc k) n ∙ rw next)
+    ap (λ (ds : List Demand). demand_at q k ∷ ds) (waiting_more q (suc k) n ∙ rw next)
 
 -- what waits in bytes of which first and number are known
-waits : {q : List ℕ} {first n mark : ℕ} → Says q first n mark → waitingIn q ≡ waitingFrom q first n
-waits {q = q} s = ap₂ (waitingFrom q) s.first-is s.waiting-is
+waits : {q : List ℕ} {first n mark : ℕ} → Says q first n mark → waiting_in q ≡ waiting_from q first n
+waits {q = q} s = ap₂ (waiting_from q) s.first_is s.waiting_is
 
 -- One more ---------------------------------------------------------------------------------------------------------------
 
 -- what demands that come to a queue leave: those that stay behind those that wait, and the mark where some are dropped
 pub record Added (q : List ℕ) (ds : List Demand) (q' : List ℕ) : Type 0 where
-  pub queue : isQueue q' ≡ true
-  pub wait : waitingIn q' ≡ waitingIn q ++ staying (waitingNumber q) ds
-  pub mark : (lost : List Demand) → markIn q ≡ markFor lost → markIn q' ≡ markFor (lost ++ dropped (waitingNumber q) ds)
+  pub queue : is_queue q' ≡ true
+  pub wait : waiting_in q' ≡ waiting_in q ++ staying (waiting_number q) ds
+  pub mark : (lost : List Demand) → mark_in q ≡ mark_for lost → mark_in q' ≡ mark_for (lost ++ dropped (waiting_number q) ds)
 
-mark-more : (lost : List Demand) (d : Demand) → markFor (lost ++ d ∷ []) ≡ 1
-mark-more [] d = refl
-mark-more (x ∷ lost) d = refl
+mark_more : (lost : List Demand) (d : Demand) → mark_for (lost ++ d ∷ []) ≡ 1
+mark_more [] d = refl
+mark_more (x ∷ lost) d = refl
 
-module _ (q : List ℕ) (e : isQueue q ≡ true) (d : Demand) where
+module _ (q : List ℕ) (e : is_queue q ≡ true) (d : Demand) where
   l : Limits q
   l = limits q e
 
-  full : waitingNumber q ≡ 2048 → Added q (d ∷ []) (withMark 1 q)
+  full : waiting_number q ≡ 2048 → Added q (d ∷ []) (with_mark 1 q)
   unfolding staying dropped
   full h =
-      let s = mark-put (says l) 1 in
-      let test = eq-eqb (waitingNumber q) 2048 h in
+      let s = mark_put (says l) 1 in
+      let test = eq-eqb (waiting_number q) 2048 h in
       record {
-        queue = is-queue s l.first_below l.waiting-most (omega arith);
+        queue = is_queue_lem s l.first_below l.waiting_most (omega arith);
         wait =
-            waits s ∙ waiting-same (withMark 1 q) q (firstIn q) (firstIn q) (waitingNumber q) (λ j b. mark-cells q 1 (firstIn q + j))
-            ∙ sym (append-nil (waitingIn q)) ∙ rw test;
-        mark = λ lost g. s.mark-is ∙ rw test (sym (mark-more lost d));
+            waits s ∙ waiting_same (with_mark 1 q) q (first_in q) (first_in q) (waiting_number q) (λ j b. mark_cells q 1 (first_in q + j))
+            ∙ sym (append-nil (waiting_in q)) ∙ rw test;
+        mark = λ lost g. s.mark_is ∙ rw test (sym (mark_more lost d));
       }
 
-  room : ¬ (waitingNumber q ≡ 2048) → Added q (d ∷ []) (keptBehind q d)
+  room : ¬ (waiting_number q ≡ 2048) → Added q (d ∷ []) (kept_behind q d)
   unfolding staying dropped
   room h =
-      let first = firstIn q in
-      let n = waitingNumber q in
-      let put = withDemand (first + n) d q in
-      let s = waiting-put (demand-put (says l) (first + n) d) (n + 1) (omega (arith, l.waiting-most)) in
+      let first = first_in q in
+      let n = waiting_number q in
+      let put = with_demand (first + n) d q in
+      let s = waiting_put (demand_put (says l) (first + n) d) (n + 1) (omega (arith, l.waiting_most)) in
       let test = ne_eqb n 2048 h in
       record {
-        queue = is-queue s l.first_below (omega (arith, l.waiting-most, h)) l.mark-most;
+        queue = is_queue_lem s l.first_below (omega (arith, l.waiting_most, h)) l.mark_most;
         wait =
             waits s
-            ∙ waiting-same (withWaiting (n + 1) put) put first first (n + 1) (λ j b. waiting-cells put (n + 1) (first + j))
-            ∙ ap (waitingFrom put first) (add-one n)
-            ∙ waiting-more put first n
+            ∙ waiting_same (with_waiting (n + 1) put) put first first (n + 1) (λ j b. waiting_cells put (n + 1) (first + j))
+            ∙ ap (waiting_from put first) (add-one n)
+            ∙ waiting_more put first n
             ∙ ap₂ (λ (ds : List Demand) (x : Demand). ds ++ x ∷ [])
-            (waiting-same put q first first n (λ j b. cell_other q (first + n) d (first + j) (λ g. apart first n j b (omega (arith, l.waiting-most, h)) g)))
-            (cell-put q (first + n) d l.long)
+            (waiting_same put q first first n (λ j b. cell_other q (first + n) d (first + j) (λ g. apart first n j b (omega (arith, l.waiting_most, h)) g)))
+            (cell_put q (first + n) d l.long)
             ∙ rw test;
-        mark = λ lost g. s.mark-is ∙ g ∙ ap markFor (sym (append-nil lost)) ∙ rw test;
+        mark = λ lost g. s.mark_is ∙ g ∙ ap mark_for (sym (append-nil lost)) ∙ rw test;
       }
     where
       apart : (f n j : ℕ) → j < n → n < 2048 → (f + j) % 2048 ≡ (f + n) % 2048 → ⊥
       apart f n j b m g = omega arith
 
-  pub added-one : Added q (d ∷ []) (addedTo q d)
-  unfolding addedTo
-  added-one = on (eqb (waitingNumber q) 2048) (λ t. rw t (full (eqb-true _ _ t))) (λ t. rw t (room (eqb-false _ _ t)))
+  pub added_one : Added q (d ∷ []) (added_to q d)
+  unfolding added_to
+  added_one = on (eqb (waiting_number q) 2048) (λ t. rw t (full (eqb-true _ _ t))) (λ t. rw t (room (eqb-false _ _ t)))
 
 -- Several ----------------------------------------------------------------------------------------------------------------
 
 -- the first, then the others
-staying-more : (n : ℕ) (d : Demand) (ds : List Demand) → staying n (d ∷ ds) ≡ staying n (d ∷ []) ++ staying (n + length (staying n (d ∷ []))) ds
+staying_more : (n : ℕ) (d : Demand) (ds : List Demand) → staying n (d ∷ ds) ≡ staying n (d ∷ []) ++ staying (n + length (staying n (d ∷ []))) ds
 unfolding staying
-staying-more n d ds = on (eqb n 2048) (λ t. rw (t, add-zero n)) (λ t. rw t)
+staying_more n d ds = on (eqb n 2048) (λ t. rw (t, add-zero n)) (λ t. rw t)
 
-dropped-more : (n : ℕ) (d : Demand) (ds : List Demand) → dropped n (d ∷ ds) ≡ dropped n (d ∷ []) ++ dropped (n + length (staying n (d ∷ []))) ds
+dropped_more : (n : ℕ) (d : Demand) (ds : List Demand) → dropped n (d ∷ ds) ≡ dropped n (d ∷ []) ++ dropped (n + length (staying n (d ∷ []))) ds
 unfolding staying dropped
-dropped-more n d ds = on (eqb n 2048) (λ t. rw (t, add-zero n)) (λ t. rw t)
+dropped_more n d ds = on (eqb n 2048) (λ t. rw (t, add-zero n)) (λ t. rw t)
 
 -- how many wait then
-added-number : {q q' : List ℕ} {ds : List Demand} → Added q ds q' → waitingNumber q' ≡ waitingNumber q + length (staying (waitingNumber q) ds)
-added-number {q = q} {q' = q'} {ds = ds} a =
-    sym (length-waiting q' (firstIn q') (waitingNumber q')) ∙ ap length a.wait ∙ length-append (waitingIn q) (staying (waitingNumber q) ds)
-    ∙ ap (λ (n : ℕ). n + length (staying (waitingNumber q) ds)) (length-waiting q (firstIn q) (waitingNumber q))
+added_number : {q q' : List ℕ} {ds : List Demand} → Added q ds q' → waiting_number q' ≡ waiting_number q + length (staying (waiting_number q) ds)
+added_number {q = q} {q' = q'} {ds = ds} a =
+    sym (length_waiting q' (first_in q') (waiting_number q')) ∙ ap length a.wait ∙ length-append (waiting_in q) (staying (waiting_number q) ds)
+    ∙ ap (λ (n : ℕ). n + length (staying (waiting_number q) ds)) (length_waiting q (first_in q) (waiting_number q))
 
-pub added-all : (q : List ℕ) (ds : List Demand) → isQueue q ≡ true → Added q ds (addedAll q ds)
-unfolding addedAll staying dropped
-added-all q [] e = record {
+pub added_all_lem : (q : List ℕ) (ds : List Demand) → is_queue q ≡ true → Added q ds (added_all q ds)
+unfolding added_all staying dropped
+added_all_lem q [] e = record {
   queue = e;
-  wait = sym (append-nil (waitingIn q));
-  mark = λ lost g. g ∙ ap markFor (sym (append-nil lost));
+  wait = sym (append-nil (waiting_in q));
+  mark = λ lost g. g ∙ ap mark_for (sym (append-nil lost));
 }
-added-all q (d ∷ ds) e =
-    let n = waitingNumber q in
-    let one = added-one q e d in
-    let others = added-all (addedTo q d) ds one.queue in
-    let number = added-number one in
+added_all_lem q (d ∷ ds) e =
+    let n = waiting_number q in
+    let one = added_one q e d in
+    let others = added_all_lem (added_to q d) ds one.queue in
+    let number = added_number one in
     record {
       queue = others.queue;
       wait =
           others.wait ∙ ap₂ (λ (ws : List Demand) (k : ℕ). ws ++ staying k ds) one.wait number
-          ∙ append_assoc (waitingIn q) (staying n (d ∷ [])) (staying (n + length (staying n (d ∷ []))) ds)
-          ∙ ap (λ (ws : List Demand). waitingIn q ++ ws) (sym (staying-more n d ds));
+          ∙ append_assoc (waiting_in q) (staying n (d ∷ [])) (staying (n + length (staying n (d ∷ []))) ds)
+          ∙ ap (λ (ws : List Demand). waiting_in q ++ ws) (sym (staying_more n d ds));
       mark = λ lost g.
-          others.mark (lost ++ dropped n (d ∷ [])) (one.mark lost g) ∙ ap (λ (k : ℕ). markFor ((lost ++ dropped n (d ∷ [])) ++ dropped k ds)) number
-          ∙ ap markFor (append_assoc lost (dropped n (d ∷ [])) (dropped (n + length (staying n (d ∷ []))) ds)
-          ∙ ap (λ (ws : List Demand). lost ++ ws) (sym (dropped-more n d ds)));
+          others.mark (lost ++ dropped n (d ∷ [])) (one.mark lost g) ∙ ap (λ (k : ℕ). mark_for ((lost ++ dropped n (d ∷ [])) ++ dropped k ds)) number
+          ∙ ap mark_for (append_assoc lost (dropped n (d ∷ [])) (dropped (n + length (staying n (d ∷ []))) ds)
+          ∙ ap (λ (ws : List Demand). lost ++ ws) (sym (dropped_more n d ds)));
     }
 
 -- The oldest out, and all out --------------------------------------------------------------------------------------------
 
 -- what taking leaves
 pub record Shorter (q : List ℕ) (next : Next) (q' : List ℕ) : Type 0 where
-  pub queue : isQueue q' ≡ true
-  pub wait : waitingIn q ≡ yielded next ++ waitingIn q'
-  pub oldest : next ≡ oldestOf (waitingIn q)
-  pub mark : markIn q' ≡ markIn q
+  pub queue : is_queue q' ≡ true
+  pub wait : waiting_in q ≡ yielded next ++ waiting_in q'
+  pub oldest : next ≡ oldest_of (waiting_in q)
+  pub mark : mark_in q' ≡ mark_in q
 
-module _ (q : List ℕ) (e : isQueue q ≡ true) where
+module _ (q : List ℕ) (e : is_queue q ≡ true) where
   lim : Limits q
   lim = limits q e
 
-  empty-out : waitingNumber q ≡ 0 → Shorter q Nothing q
-  unfolding waitingFrom
-  empty-out h = record { queue = e; wait = refl; oldest = rw h; mark = refl }
+  empty_out : waiting_number q ≡ 0 → Shorter q Nothing q
+  unfolding waiting_from
+  empty_out h = record { queue = e; wait = refl; oldest = rw h; mark = refl }
 
-  one_out : ¬ (waitingNumber q ≡ 0) → Shorter q (Oldest (demandAt q (firstIn q))) (withFirst (cell_of (firstIn q + 1)) (withWaiting (waitingNumber q - 1) q))
-  unfolding waitingFrom
+  one_out : ¬ (waiting_number q ≡ 0) → Shorter q (Oldest (demand_at q (first_in q))) (with_first (cell_of (first_in q + 1)) (with_waiting (waiting_number q - 1) q))
+  unfolding waiting_from
   one_out h =
-      let first = firstIn q in
-      let n = waitingNumber q in
-      let fewer = withWaiting (n - 1) q in
-      let left = withFirst (cell_of (first + 1)) fewer in
-      let s = first-put (waiting-put (says lim) (n - 1) (omega (arith, lim.waiting-most))) (cell_of (first + 1)) (omega arith) in
+      let first = first_in q in
+      let n = waiting_number q in
+      let fewer = with_waiting (n - 1) q in
+      let left = with_first (cell_of (first + 1)) fewer in
+      let s = first_put (waiting_put (says lim) (n - 1) (omega (arith, lim.waiting_most))) (cell_of (first + 1)) (omega arith) in
       let number : n ≡ suc (n - 1) = omega (arith, h) in
-      let split : waitingIn q ≡ demandAt q first ∷ waitingFrom q (suc first) (n - 1) = ap (waitingFrom q first) number in
+      let split : waiting_in q ≡ demand_at q first ∷ waiting_from q (suc first) (n - 1) = ap (waiting_from q first) number in
       record {
-        queue = is-queue s (omega arith) (omega (arith, lim.waiting-most)) lim.mark-most;
+        queue = is_queue_lem s (omega arith) (omega (arith, lim.waiting_most)) lim.mark_most;
         wait =
             split
-            ∙ ap (λ (ds : List Demand). demandAt q first ∷ ds)
-            (sym (waits s ∙ waiting-same left q (cell_of (first + 1)) (suc first) (n - 1)
-            (λ j b. first-cells fewer (cell_of (first + 1)) (cell_of (first + 1) + j) ∙ waiting-cells q (n - 1) (cell_of (first + 1) + j)
-            ∙ cell-round q (cell_of (first + 1) + j) (suc first + j) (around first j))));
-        oldest = sym (ap oldestOf split);
-        mark = s.mark-is;
+            ∙ ap (λ (ds : List Demand). demand_at q first ∷ ds)
+            (sym (waits s ∙ waiting_same left q (cell_of (first + 1)) (suc first) (n - 1)
+            (λ j b. first_cells fewer (cell_of (first + 1)) (cell_of (first + 1) + j) ∙ waiting_cells q (n - 1) (cell_of (first + 1) + j)
+            ∙ cell_round q (cell_of (first + 1) + j) (suc first + j) (around first j))));
+        oldest = sym (ap oldest_of split);
+        mark = s.mark_is;
       }
     where
       around : (f j : ℕ) → ((f + 1) % 2048 + j) % 2048 ≡ (suc f + j) % 2048
       around f j = omega arith
 
-  pub taken : Shorter q (takenFrom q).next (takenFrom q).queue
-  taken = on (eqb (waitingNumber q) 0) (λ t. rw t (empty-out (eqb-true _ _ t))) (λ t. rw t (one_out (eqb-false _ _ t)))
+  pub taken : Shorter q (taken_from q).next (taken_from q).queue
+  taken = on (eqb (waiting_number q) 0) (λ t. rw t (empty_out (eqb-true _ _ t))) (λ t. rw t (one_out (eqb-false _ _ t)))
 
   -- cleared: none waits
-  pub cleared : (isQueue (withWaiting 0 (withMark 0 q)) ≡ true) × (waitingIn (withWaiting 0 (withMark 0 q)) ≡ []) × (markIn (withWaiting 0 (withMark 0 q)) ≡ 0)
-  unfolding waitingFrom
+  pub cleared : (is_queue (with_waiting 0 (with_mark 0 q)) ≡ true) × (waiting_in (with_waiting 0 (with_mark 0 q)) ≡ []) × (mark_in (with_waiting 0 (with_mark 0 q)) ≡ 0)
+  unfolding waiting_from
   cleared =
-      let s = waiting-put (mark-put (says lim) 0) 0 (omega arith) in
-      (is-queue s lim.first_below (omega arith) (omega arith), waits s, s.mark-is)
+      let s = waiting_put (mark_put (says lim) 0) 0 (omega arith) in
+      (is_queue_lem s lim.first_below (omega arith) (omega arith), waits s, s.mark_is)

@@ -5,7 +5,7 @@ use Rattle.base.specs.Refusals.{refusal}
 use Rattle.demands.specs.declared.Demand.{Demand}
 use Rattle.demands.specs.declared.Next.{Next}
 use Rattle.demands.specs.declared.Next.TheVariants.{Nothing, Oldest}
-use Rattle.demands.specs.Demands.{markIn, waitingIn, isCrate, is_row, demandsIn, Outcome, addOf, row_of, take_of, clearOf}
+use Rattle.demands.specs.Demands.{mark_in, waiting_in, is_crate, is_row, demands_in, Outcome, add_of, row_of, take_of, clear_of}
 
 -- Lists of calls ---------------------------------------------------------------------------------------------------------
 
@@ -17,19 +17,19 @@ pub data Call : Type 0 where
   Clear : Call
 
 -- what a call leaves
-abbrev pub outcomeOf : List ℕ → Call → Outcome
-outcomeOf q (Add d) = addOf q d
-outcomeOf q (AddRow row) = row_of q row
-outcomeOf q Take = take_of q
-outcomeOf q Clear = clearOf q
+abbrev pub outcome_of : List ℕ → Call → Outcome
+outcome_of q (Add d) = add_of q d
+outcome_of q (AddRow row) = row_of q row
+outcome_of q Take = take_of q
+outcome_of q Clear = clear_of q
 
-abbrev pub isAccepted : Outcome → Bool
-isAccepted o = eqb o.queued.refusal.number 0
+abbrev pub is_accepted : Outcome → Bool
+is_accepted o = eqb o.queued.refusal.number 0
 
 -- the queue after calls, in order
 unfoldable pub after : List ℕ → List Call → List ℕ
 after q [] = q
-after q (c ∷ cs) = after (outcomeOf q c).queue cs
+after q (c ∷ cs) = after (outcome_of q c).queue cs
 
 -- "from empty"
 unfoldable pub empty : List ℕ
@@ -38,20 +38,20 @@ empty = replicate 4101 0
 -- Refused calls ----------------------------------------------------------------------------------------------------------
 
 -- what is asked of a call with a queue that keeps its limits
-abbrev pub isGood : Call → Bool
-isGood (Add d) = isCrate d.crate_number
-isGood (AddRow row) = is_row row
-isGood Take = true
-isGood Clear = true
+abbrev pub is_good : Call → Bool
+is_good (Add d) = is_crate d.crate_number
+is_good (AddRow row) = is_row row
+is_good Take = true
+is_good Clear = true
 
 -- What is kept -----------------------------------------------------------------------------------------------------------
 
 -- "what accepted adds brought"
-abbrev pub broughtBy : List ℕ → Call → List Demand
-broughtBy q (Add d) = if isAccepted (addOf q d) then d ∷ [] else []
-broughtBy q (AddRow row) = if isAccepted (row_of q row) then demandsIn row else []
-broughtBy q Take = []
-broughtBy q Clear = []
+abbrev pub brought_by : List ℕ → Call → List Demand
+brought_by q (Add d) = if is_accepted (add_of q d) then d ∷ [] else []
+brought_by q (AddRow row) = if is_accepted (row_of q row) then demands_in row else []
+brought_by q Take = []
+brought_by q Clear = []
 
 -- "less what came with 2,048 waiting": of demands that come one by one, the first with n waiting, those that stay, and those that do not
 unfoldable pub staying : ℕ → List Demand → List Demand
@@ -62,78 +62,78 @@ unfoldable pub dropped : ℕ → List Demand → List Demand
 dropped n [] = []
 dropped n (d ∷ ds) = if eqb n 2048 then d ∷ dropped n ds else dropped (n + 1) ds
 
-abbrev pub stayingBy : List ℕ → Call → List Demand
-stayingBy q c = staying (length (waitingIn q)) (broughtBy q c)
+abbrev pub staying_by : List ℕ → Call → List Demand
+staying_by q c = staying (length (waiting_in q)) (brought_by q c)
 
-unfoldable pub stayingOver : List ℕ → List Call → List Demand
-stayingOver q [] = []
-stayingOver q (c ∷ cs) = stayingBy q c ++ stayingOver (outcomeOf q c).queue cs
+unfoldable pub staying_over : List ℕ → List Call → List Demand
+staying_over q [] = []
+staying_over q (c ∷ cs) = staying_by q c ++ staying_over (outcome_of q c).queue cs
 
 -- "what was taken and cleared, in order"
 abbrev pub yielded : Next → List Demand
 yielded Nothing = []
 yielded (Oldest d) = d ∷ []
 
-abbrev pub goneBy : List ℕ → Call → List Demand
-goneBy q (Add d) = []
-goneBy q (AddRow row) = []
-goneBy q Take = yielded (take_of q).next
-goneBy q Clear = waitingIn q
+abbrev pub gone_by : List ℕ → Call → List Demand
+gone_by q (Add d) = []
+gone_by q (AddRow row) = []
+gone_by q Take = yielded (take_of q).next
+gone_by q Clear = waiting_in q
 
-unfoldable pub goneOver : List ℕ → List Call → List Demand
-goneOver q [] = []
-goneOver q (c ∷ cs) = goneBy q c ++ goneOver (outcomeOf q c).queue cs
+unfoldable pub gone_over : List ℕ → List Call → List Demand
+gone_over q [] = []
+gone_over q (c ∷ cs) = gone_by q c ++ gone_over (outcome_of q c).queue cs
 
 -- The mark ---------------------------------------------------------------------------------------------------------------
 
 -- what was dropped since the last clear, given what was before a call
-abbrev pub lostBy : List ℕ → List Demand → Call → List Demand
-lostBy q lost (Add d) = lost ++ dropped (length (waitingIn q)) (broughtBy q (Add d))
-lostBy q lost (AddRow row) = lost ++ dropped (length (waitingIn q)) (broughtBy q (AddRow row))
-lostBy q lost Take = lost
-lostBy q lost Clear = []
+abbrev pub lost_by : List ℕ → List Demand → Call → List Demand
+lost_by q lost (Add d) = lost ++ dropped (length (waiting_in q)) (brought_by q (Add d))
+lost_by q lost (AddRow row) = lost ++ dropped (length (waiting_in q)) (brought_by q (AddRow row))
+lost_by q lost Take = lost
+lost_by q lost Clear = []
 
-unfoldable pub lostOver : List ℕ → List Demand → List Call → List Demand
-lostOver q lost [] = lost
-lostOver q lost (c ∷ cs) = lostOver (outcomeOf q c).queue (lostBy q lost c) cs
+unfoldable pub lost_over : List ℕ → List Demand → List Call → List Demand
+lost_over q lost [] = lost
+lost_over q lost (c ∷ cs) = lost_over (outcome_of q c).queue (lost_by q lost c) cs
 
 -- set exactly when any was
-abbrev pub markFor : List Demand → ℕ
-markFor [] = 0
-markFor (d ∷ ds) = 1
+abbrev pub mark_for : List Demand → ℕ
+mark_for [] = 0
+mark_for (d ∷ ds) = 1
 
 -- A row, and its demands singly ------------------------------------------------------------------------------------------
 
 -- each of them in a call of its own, one after the other: none is refused, and what they leave
 abbrev pub EachAccepted : List ℕ → List Demand → Type 0
 EachAccepted q [] = Unit {0}
-EachAccepted q (d ∷ ds) = (isAccepted (addOf q d) ≡ true) × EachAccepted (addOf q d).queue ds
+EachAccepted q (d ∷ ds) = (is_accepted (add_of q d) ≡ true) × EachAccepted (add_of q d).queue ds
 
-abbrev pub eachAdded : List ℕ → List Demand → List ℕ
-eachAdded q [] = q
-eachAdded q (d ∷ ds) = eachAdded (addOf q d).queue ds
+abbrev pub each_added : List ℕ → List Demand → List ℕ
+each_added q [] = q
+each_added q (d ∷ ds) = each_added (add_of q d).queue ds
 
 -- The statement ----------------------------------------------------------------------------------------------------------
 
 -- nothing of none, else the oldest
-abbrev pub oldestOf : List Demand → Next
-oldestOf [] = Nothing
-oldestOf (d ∷ ds) = Oldest d
+abbrev pub oldest_of : List Demand → Next
+oldest_of [] = Nothing
+oldest_of (d ∷ ds) = Oldest d
 
 pub record Kept : Type 0 where
   -- "For every list of add, add-row, take and clear from empty": "what was taken and cleared, in order, followed by what still waits, is what accepted
   -- adds brought less what came with 2,048 waiting"
-  pub kept : (cs : List Call) → goneOver empty cs ++ waitingIn (after empty cs) ≡ stayingOver empty cs
+  pub kept : (cs : List Call) → gone_over empty cs ++ waiting_in (after empty cs) ≡ staying_over empty cs
   -- "Taking yields nothing exactly when none waits", else the oldest
-  pub takes : (cs : List Call) → (take_of (after empty cs)).next ≡ oldestOf (waitingIn (after empty cs))
+  pub takes : (cs : List Call) → (take_of (after empty cs)).next ≡ oldest_of (waiting_in (after empty cs))
   -- an overflow mark is set exactly when one was dropped since the last clear
-  pub mark : (cs : List Call) → markIn (after empty cs) ≡ markFor (lostOver empty [] cs)
+  pub mark : (cs : List Call) → mark_in (after empty cs) ≡ mark_for (lost_over empty [] cs)
   -- a call is refused for what it was given alone, never for what calls before it left
-  pub accepts : (cs : List Call) (c : Call) → isAccepted (outcomeOf (after empty cs) c) ≡ isGood c
+  pub accepts : (cs : List Call) (c : Call) → is_accepted (outcome_of (after empty cs) c) ≡ is_good c
   -- an answer tells how many wait
-  pub counts : (q : List ℕ) (c : Call) → isAccepted (outcomeOf q c) ≡ true → (outcomeOf q c).queued.waiting ≡ length (waitingIn (outcomeOf q c).queue)
+  pub counts : (q : List ℕ) (c : Call) → is_accepted (outcome_of q c) ≡ true → (outcome_of q c).queued.waiting ≡ length (waiting_in (outcome_of q c).queue)
   -- "A row that is accepted must leave what adding its demands singly leaves, overflow included"
-  pub row : (q row : List ℕ) → isAccepted (row_of q row) ≡ true
-      → EachAccepted q (demandsIn row) × ((row_of q row).queue ≡ eachAdded q (demandsIn row))
+  pub row : (q row : List ℕ) → is_accepted (row_of q row) ≡ true
+      → EachAccepted q (demands_in row) × ((row_of q row).queue ≡ each_added q (demands_in row))
   -- "a call so refused changes neither queue nor mark", whatever bytes it was given
-  pub refused : (q : List ℕ) (c : Call) → isAccepted (outcomeOf q c) ≡ false → ((outcomeOf q c).queue ≡ q) × ((outcomeOf q c).queued.refusal ≡ refusal 25)
+  pub refused : (q : List ℕ) (c : Call) → is_accepted (outcome_of q c) ≡ false → ((outcome_of q c).queue ≡ q) × ((outcome_of q c).queued.refusal ≡ refusal 25)

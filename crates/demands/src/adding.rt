@@ -1,12 +1,12 @@
 // Demands into the queue, one or a row of them.
 ghost use Rattle.std.specs.Prelude.{◌≡◌, true, ◌%◌, length};
-ghost use Rattle.demands.specs.Demands.{isCrate, is_row, isQueue, demandsIn, addedTo, addedAll};
+ghost use Rattle.demands.specs.Demands.{is_crate, is_row, is_queue, demands_in, added_to, added_all};
 
 use crate::Demand;
 use crate::layout::{first_in, set_waiting, waiting_in};
 
 pub fn is_crate(n: u8) -> bool
-    ensures { result ≡ isCrate n }
+    ensures { result ≡ is_crate n }
 {
     (1 <= n) & (n <= 62)
 }
@@ -29,8 +29,8 @@ pub fn is_row(row: &[u8]) -> bool
 
 // Behind those that wait, round behind the last cell; dropped where 2,048 wait.
 pub fn add_one(queue: &mut [u8], demand: Demand)
-    requires { isQueue queue.old ≡ true }
-    ensures { queue.new ≡ addedTo queue.old demand }
+    requires { is_queue queue.old ≡ true }
+    ensures { queue.new ≡ added_to queue.old demand }
 {
     let n = waiting_in(queue);
     if n == 2048 {
@@ -44,8 +44,8 @@ pub fn add_one(queue: &mut [u8], demand: Demand)
 }
 
 pub fn add_all(queue: &mut [u8], row: &[u8])
-    requires { (isQueue queue.old ≡ true) × (length row.now % 2 ≡ 0) }
-    ensures { queue.new ≡ addedAll queue.old (demandsIn row.now) }
+    requires { (is_queue queue.old ≡ true) × (length row.now % 2 ≡ 0) }
+    ensures { queue.new ≡ added_all queue.old (demands_in row.now) }
 {
     let mut at: usize = 0;
     while at < row.len() {

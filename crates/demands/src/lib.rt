@@ -4,7 +4,7 @@ pub mod layout;
 pub mod taking;
 
 ghost use Rattle.std.specs.Prelude.{◌≡◌, length};
-ghost use Rattle.demands.specs.Demands.{answer_in, refusedAnswer, addOf, row_of, take_of, clearOf};
+ghost use Rattle.demands.specs.Demands.{answer_in, refused_answer, add_of, row_of, take_of, clear_of};
 
 use adding::{add_all, add_one, is_crate, is_row};
 use base::Refusal;
@@ -54,7 +54,7 @@ fn answer_of(queue: &[u8]) -> Queued
 }
 
 fn refused() -> Queued
-    ensures { result ≡ refusedAnswer }
+    ensures { result ≡ refused_answer }
 {
     Queued {
         refusal: Refusal {
@@ -68,8 +68,8 @@ fn refused() -> Queued
 
 // One demand; dropped where 2,048 wait.
 pub fn add(queue: &mut [u8], demand: Demand) -> Queued
-    ensures answer { result ≡ (addOf queue.old demand).queued }
-    ensures bytes { queue.new ≡ (addOf queue.old demand).queue }
+    ensures answer { result ≡ (add_of queue.old demand).queued }
+    ensures bytes { queue.new ≡ (add_of queue.old demand).queue }
 {
     if !(is_queue(queue) & is_crate(demand.crate_number)) {
         return refused();
@@ -111,8 +111,8 @@ pub fn take(queue: &mut [u8]) -> Taken
 
 // None waits, and the overflow mark is off.
 pub fn clear(queue: &mut [u8]) -> Queued
-    ensures answer { result ≡ (clearOf queue.old).queued }
-    ensures bytes { queue.new ≡ (clearOf queue.old).queue }
+    ensures answer { result ≡ (clear_of queue.old).queued }
+    ensures bytes { queue.new ≡ (clear_of queue.old).queue }
 {
     if !is_queue(queue) {
         return refused();

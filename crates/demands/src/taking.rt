@@ -1,15 +1,15 @@
 // The oldest demand out of the queue.
 ghost use Rattle.std.specs.Prelude.{◌≡◌, true};
-ghost use Rattle.demands.specs.Demands.{isQueue, takenFrom};
+ghost use Rattle.demands.specs.Demands.{is_queue, taken_from};
 
 use crate::layout::{first_in, set_first, set_waiting, waiting_in};
 use crate::{Demand, Next};
 
 // The cell after it is the oldest's then, round behind the last cell.
 pub fn take_oldest(queue: &mut [u8]) -> Next
-    requires { isQueue queue.old ≡ true }
-    ensures next { result ≡ (takenFrom queue.old).next }
-    ensures bytes { queue.new ≡ (takenFrom queue.old).queue }
+    requires { is_queue queue.old ≡ true }
+    ensures next { result ≡ (taken_from queue.old).next }
+    ensures bytes { queue.new ≡ (taken_from queue.old).queue }
 {
     let n = waiting_in(queue);
     if n == 0 {

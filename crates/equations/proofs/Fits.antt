@@ -6,243 +6,243 @@ use Rattle.equations.specs.Fits.{BlockStopRead16FirstWord, BlockStopRead16LastWo
 use Rattle.equations.specs.Fits.{BlockRepeatRead16FirstWord, BlockRepeatRead16LastWord, BlockRepeatWrite24FirstWord, BlockRepeatWrite24LastWord, BlockScanRead16FirstWord, BlockScanRead16LastWord, BlockScanWrite24FirstWord, BlockScanWrite24LastWord}
 use Rattle.equations.specs.Fits.{Instructions, Statuses, Notes, FewPositions, Order, RefusedLists, Replies}
 
-pub block-stop-read-16-first-word : BlockStopRead16FirstWord
+pub block_stop_read_16_first_word : BlockStopRead16FirstWord
 unfolding opened
-block-stop-read-16-first-word = record {
+block_stop_read_16_first_word = record {
   fits = refl;
-  instruction-less = refl;
-  instruction-more = refl;
-  words-left-more = refl;
-  tries-more = refl;
-  station-less = refl;
-  station-more = refl;
-  subaddress-less = refl;
-  subaddress-more = refl;
-  incoming-mark-less = refl;
-  incoming-mark-more = refl;
-  outgoing-mark-more = refl;
-  operations-more = refl;
-  note-buffer-more = refl;
-  note-offset-more = refl;
-  note-length-less = refl;
-  note-length-more = refl;
-  incoming-mark-more-by-2 = refl;
-  outgoing-mark-more-by-2 = refl;
+  instruction_less = refl;
+  instruction_more = refl;
+  words_left_more = refl;
+  tries_more = refl;
+  station_less = refl;
+  station_more = refl;
+  subaddress_less = refl;
+  subaddress_more = refl;
+  incoming_mark_less = refl;
+  incoming_mark_more = refl;
+  outgoing_mark_more = refl;
+  operations_more = refl;
+  note_buffer_more = refl;
+  note_offset_more = refl;
+  note_length_less = refl;
+  note_length_more = refl;
+  incoming_mark_more_by_2 = refl;
+  outgoing_mark_more_by_2 = refl;
 }
 
-pub block-stop-read-16-last-word : BlockStopRead16LastWord
+pub block_stop_read_16_last_word : BlockStopRead16LastWord
 unfolding opened
-block-stop-read-16-last-word = record {
+block_stop_read_16_last_word = record {
   fits = refl;
-  words-left-less = refl;
-  words-left-more = refl;
-  incoming-mark-less = refl;
-  incoming-mark-more = refl;
-  outgoing-mark-more = refl;
-  operations-more = refl;
-  incoming-mark-more-by-2 = refl;
-  outgoing-mark-more-by-2 = refl;
+  words_left_less = refl;
+  words_left_more = refl;
+  incoming_mark_less = refl;
+  incoming_mark_more = refl;
+  outgoing_mark_more = refl;
+  operations_more = refl;
+  incoming_mark_more_by_2 = refl;
+  outgoing_mark_more_by_2 = refl;
 }
 
-pub block-stop-write-24-first-word : BlockStopWrite24FirstWord
+pub block_stop_write_24_first_word : BlockStopWrite24FirstWord
 unfolding opened
-block-stop-write-24-first-word = record {
+block_stop_write_24_first_word = record {
   fits = refl;
-  incoming-mark-less = refl;
-  incoming-mark-more = refl;
-  outgoing-mark-more = refl;
-  operations-more = refl;
-  incoming-mark-more-by-2 = refl;
-  outgoing-mark-more-by-2 = refl;
+  incoming_mark_less = refl;
+  incoming_mark_more = refl;
+  outgoing_mark_more = refl;
+  operations_more = refl;
+  incoming_mark_more_by_2 = refl;
+  outgoing_mark_more_by_2 = refl;
 }
 
-pub block-stop-write-24-last-word : BlockStopWrite24LastWord
+pub block_stop_write_24_last_word : BlockStopWrite24LastWord
 unfolding opened
-block-stop-write-24-last-word = record {
+block_stop_write_24_last_word = record {
   fits = refl;
-  words-left-more = refl;
-  incoming-mark-less = refl;
-  incoming-mark-more = refl;
-  outgoing-mark-less = refl;
-  outgoing-mark-more = refl;
-  operations-more = refl;
-  note-buffer-less = refl;
-  incoming-mark-more-by-2 = refl;
-  outgoing-mark-more-by-2 = refl;
+  words_left_more = refl;
+  incoming_mark_less = refl;
+  incoming_mark_more = refl;
+  outgoing_mark_less = refl;
+  outgoing_mark_more = refl;
+  operations_more = refl;
+  note_buffer_less = refl;
+  incoming_mark_more_by_2 = refl;
+  outgoing_mark_more_by_2 = refl;
 }
 
-pub block-ignore-read-16-first-word : BlockIgnoreRead16FirstWord
+pub block_ignore_read_16_first_word : BlockIgnoreRead16FirstWord
 unfolding opened
-block-ignore-read-16-first-word = record {
+block_ignore_read_16_first_word = record {
   fits = refl;
-  tries-more = refl;
-  station-less = refl;
-  station-more = refl;
-  subaddress-less = refl;
-  subaddress-more = refl;
-  incoming-mark-less = refl;
-  incoming-mark-more = refl;
-  outgoing-mark-more = refl;
-  operations-more = refl;
-  incoming-mark-more-by-2 = refl;
-  outgoing-mark-more-by-2 = refl;
+  tries_more = refl;
+  station_less = refl;
+  station_more = refl;
+  subaddress_less = refl;
+  subaddress_more = refl;
+  incoming_mark_less = refl;
+  incoming_mark_more = refl;
+  outgoing_mark_more = refl;
+  operations_more = refl;
+  incoming_mark_more_by_2 = refl;
+  outgoing_mark_more_by_2 = refl;
 }
 
-pub block-ignore-read-16-last-word : BlockIgnoreRead16LastWord
+pub block_ignore_read_16_last_word : BlockIgnoreRead16LastWord
 unfolding opened
-block-ignore-read-16-last-word = record {
+block_ignore_read_16_last_word = record {
   fits = refl;
-  words-left-more = refl;
-  incoming-mark-less = refl;
-  incoming-mark-more = refl;
-  outgoing-mark-more = refl;
-  operations-more = refl;
-  incoming-mark-more-by-2 = refl;
-  outgoing-mark-more-by-2 = refl;
+  words_left_more = refl;
+  incoming_mark_less = refl;
+  incoming_mark_more = refl;
+  outgoing_mark_more = refl;
+  operations_more = refl;
+  incoming_mark_more_by_2 = refl;
+  outgoing_mark_more_by_2 = refl;
 }
 
-pub block-ignore-write-24-first-word : BlockIgnoreWrite24FirstWord
+pub block_ignore_write_24_first_word : BlockIgnoreWrite24FirstWord
 unfolding opened
-block-ignore-write-24-first-word = record {
+block_ignore_write_24_first_word = record {
   fits = refl;
-  incoming-mark-less = refl;
-  incoming-mark-more = refl;
-  outgoing-mark-more = refl;
-  operations-more = refl;
-  incoming-mark-more-by-2 = refl;
-  outgoing-mark-more-by-2 = refl;
+  incoming_mark_less = refl;
+  incoming_mark_more = refl;
+  outgoing_mark_more = refl;
+  operations_more = refl;
+  incoming_mark_more_by_2 = refl;
+  outgoing_mark_more_by_2 = refl;
 }
 
-pub block-ignore-write-24-last-word : BlockIgnoreWrite24LastWord
+pub block_ignore_write_24_last_word : BlockIgnoreWrite24LastWord
 unfolding opened
-block-ignore-write-24-last-word = record {
+block_ignore_write_24_last_word = record {
   fits = refl;
-  words-left-more = refl;
-  incoming-mark-less = refl;
-  incoming-mark-more = refl;
-  outgoing-mark-less = refl;
-  outgoing-mark-more = refl;
-  operations-more = refl;
-  incoming-mark-more-by-2 = refl;
-  outgoing-mark-more-by-2 = refl;
+  words_left_more = refl;
+  incoming_mark_less = refl;
+  incoming_mark_more = refl;
+  outgoing_mark_less = refl;
+  outgoing_mark_more = refl;
+  operations_more = refl;
+  incoming_mark_more_by_2 = refl;
+  outgoing_mark_more_by_2 = refl;
 }
 
-pub block-repeat-read-16-first-word : BlockRepeatRead16FirstWord
+pub block_repeat_read_16_first_word : BlockRepeatRead16FirstWord
 unfolding opened
-block-repeat-read-16-first-word = record {
+block_repeat_read_16_first_word = record {
   fits = refl;
-  tries-less = refl;
-  tries-more = refl;
-  station-less = refl;
-  station-more = refl;
-  subaddress-less = refl;
-  subaddress-more = refl;
-  incoming-mark-less = refl;
-  incoming-mark-more = refl;
-  outgoing-mark-more = refl;
-  operations-more = refl;
-  incoming-mark-more-by-2 = refl;
-  outgoing-mark-more-by-2 = refl;
+  tries_less = refl;
+  tries_more = refl;
+  station_less = refl;
+  station_more = refl;
+  subaddress_less = refl;
+  subaddress_more = refl;
+  incoming_mark_less = refl;
+  incoming_mark_more = refl;
+  outgoing_mark_more = refl;
+  operations_more = refl;
+  incoming_mark_more_by_2 = refl;
+  outgoing_mark_more_by_2 = refl;
 }
 
-pub block-repeat-read-16-last-word : BlockRepeatRead16LastWord
+pub block_repeat_read_16_last_word : BlockRepeatRead16LastWord
 unfolding opened
-block-repeat-read-16-last-word = record {
+block_repeat_read_16_last_word = record {
   fits = refl;
-  words-left-more = refl;
-  tries-less = refl;
-  incoming-mark-less = refl;
-  incoming-mark-more = refl;
-  outgoing-mark-more = refl;
-  operations-more = refl;
-  incoming-mark-more-by-2 = refl;
-  outgoing-mark-more-by-2 = refl;
+  words_left_more = refl;
+  tries_less = refl;
+  incoming_mark_less = refl;
+  incoming_mark_more = refl;
+  outgoing_mark_more = refl;
+  operations_more = refl;
+  incoming_mark_more_by_2 = refl;
+  outgoing_mark_more_by_2 = refl;
 }
 
-pub block-repeat-write-24-first-word : BlockRepeatWrite24FirstWord
+pub block_repeat_write_24_first_word : BlockRepeatWrite24FirstWord
 unfolding opened
-block-repeat-write-24-first-word = record {
+block_repeat_write_24_first_word = record {
   fits = refl;
-  tries-less = refl;
-  incoming-mark-less = refl;
-  incoming-mark-more = refl;
-  outgoing-mark-more = refl;
-  operations-more = refl;
-  incoming-mark-more-by-2 = refl;
-  outgoing-mark-more-by-2 = refl;
+  tries_less = refl;
+  incoming_mark_less = refl;
+  incoming_mark_more = refl;
+  outgoing_mark_more = refl;
+  operations_more = refl;
+  incoming_mark_more_by_2 = refl;
+  outgoing_mark_more_by_2 = refl;
 }
 
-pub block-repeat-write-24-last-word : BlockRepeatWrite24LastWord
+pub block_repeat_write_24_last_word : BlockRepeatWrite24LastWord
 unfolding opened
-block-repeat-write-24-last-word = record {
+block_repeat_write_24_last_word = record {
   fits = refl;
-  words-left-more = refl;
-  tries-less = refl;
-  incoming-mark-less = refl;
-  incoming-mark-more = refl;
-  outgoing-mark-less = refl;
-  outgoing-mark-more = refl;
-  operations-more = refl;
-  incoming-mark-more-by-2 = refl;
-  outgoing-mark-more-by-2 = refl;
+  words_left_more = refl;
+  tries_less = refl;
+  incoming_mark_less = refl;
+  incoming_mark_more = refl;
+  outgoing_mark_less = refl;
+  outgoing_mark_more = refl;
+  operations_more = refl;
+  incoming_mark_more_by_2 = refl;
+  outgoing_mark_more_by_2 = refl;
 }
 
-pub block-scan-read-16-first-word : BlockScanRead16FirstWord
+pub block_scan_read_16_first_word : BlockScanRead16FirstWord
 unfolding opened
-block-scan-read-16-first-word = record {
+block_scan_read_16_first_word = record {
   fits = refl;
-  tries-more = refl;
-  station-less = refl;
-  subaddress-less = refl;
-  incoming-mark-less = refl;
-  incoming-mark-more = refl;
-  outgoing-mark-more = refl;
-  operations-more = refl;
-  incoming-mark-more-by-2 = refl;
-  outgoing-mark-more-by-2 = refl;
+  tries_more = refl;
+  station_less = refl;
+  subaddress_less = refl;
+  incoming_mark_less = refl;
+  incoming_mark_more = refl;
+  outgoing_mark_more = refl;
+  operations_more = refl;
+  incoming_mark_more_by_2 = refl;
+  outgoing_mark_more_by_2 = refl;
 }
 
-pub block-scan-read-16-last-word : BlockScanRead16LastWord
+pub block_scan_read_16_last_word : BlockScanRead16LastWord
 unfolding opened
-block-scan-read-16-last-word = record {
+block_scan_read_16_last_word = record {
   fits = refl;
-  words-left-more = refl;
-  station-less = refl;
-  station-more = refl;
-  subaddress-more = refl;
-  incoming-mark-less = refl;
-  incoming-mark-more = refl;
-  outgoing-mark-more = refl;
-  operations-more = refl;
-  incoming-mark-more-by-2 = refl;
-  outgoing-mark-more-by-2 = refl;
+  words_left_more = refl;
+  station_less = refl;
+  station_more = refl;
+  subaddress_more = refl;
+  incoming_mark_less = refl;
+  incoming_mark_more = refl;
+  outgoing_mark_more = refl;
+  operations_more = refl;
+  incoming_mark_more_by_2 = refl;
+  outgoing_mark_more_by_2 = refl;
 }
 
-pub block-scan-write-24-first-word : BlockScanWrite24FirstWord
+pub block_scan_write_24_first_word : BlockScanWrite24FirstWord
 unfolding opened
-block-scan-write-24-first-word = record {
+block_scan_write_24_first_word = record {
   fits = refl;
-  incoming-mark-less = refl;
-  incoming-mark-more = refl;
-  outgoing-mark-more = refl;
-  operations-more = refl;
-  incoming-mark-more-by-2 = refl;
-  outgoing-mark-more-by-2 = refl;
+  incoming_mark_less = refl;
+  incoming_mark_more = refl;
+  outgoing_mark_more = refl;
+  operations_more = refl;
+  incoming_mark_more_by_2 = refl;
+  outgoing_mark_more_by_2 = refl;
 }
 
-pub block-scan-write-24-last-word : BlockScanWrite24LastWord
+pub block_scan_write_24_last_word : BlockScanWrite24LastWord
 unfolding opened
-block-scan-write-24-last-word = record {
+block_scan_write_24_last_word = record {
   fits = refl;
-  words-left-more = refl;
-  station-less = refl;
-  incoming-mark-less = refl;
-  incoming-mark-more = refl;
-  outgoing-mark-less = refl;
-  outgoing-mark-more = refl;
-  operations-more = refl;
-  incoming-mark-more-by-2 = refl;
-  outgoing-mark-more-by-2 = refl;
+  words_left_more = refl;
+  station_less = refl;
+  incoming_mark_less = refl;
+  incoming_mark_more = refl;
+  outgoing_mark_less = refl;
+  outgoing_mark_more = refl;
+  operations_more = refl;
+  incoming_mark_more_by_2 = refl;
+  outgoing_mark_more_by_2 = refl;
 }
 
 pub instructions : Instructions
@@ -250,175 +250,175 @@ unfolding opened
 instructions = record {
   at_literal = refl;
   at_block = refl;
-  at-jump = refl;
-  at-unreached = refl;
-  at-halt = refl;
-  at-past-last = refl;
+  at_jump = refl;
+  at_unreached = refl;
+  at_halt = refl;
+  at_past_last = refl;
 }
 
 pub statuses : Statuses
 unfolding opened
 statuses = record {
-  bit-0 = refl;
-  bit-1 = refl;
-  bit-2 = refl;
-  bit-3 = refl;
-  bit-4 = refl;
-  bit-5 = refl;
-  bit-6 = refl;
-  bit-7 = refl;
-  bit-8 = refl;
-  bit-9 = refl;
-  bit-10 = refl;
-  bit-11 = refl;
-  bit-12 = refl;
-  bit-13 = refl;
-  bit-14 = refl;
-  bit-15 = refl;
-  bit-16 = refl;
-  bit-17 = refl;
-  bit-18 = refl;
-  bit-19 = refl;
-  bit-20 = refl;
-  bit-21 = refl;
-  bit-22 = refl;
-  bit-23 = refl;
-  bit-24 = refl;
-  bit-25 = refl;
-  bit-26 = refl;
-  bit-27 = refl;
-  bit-28 = refl;
-  bit-29 = refl;
-  bit-30 = refl;
-  bit-31 = refl;
-  all-that-fit = refl;
+  bit_0 = refl;
+  bit_1 = refl;
+  bit_2 = refl;
+  bit_3 = refl;
+  bit_4 = refl;
+  bit_5 = refl;
+  bit_6 = refl;
+  bit_7 = refl;
+  bit_8 = refl;
+  bit_9 = refl;
+  bit_10 = refl;
+  bit_11 = refl;
+  bit_12 = refl;
+  bit_13 = refl;
+  bit_14 = refl;
+  bit_15 = refl;
+  bit_16 = refl;
+  bit_17 = refl;
+  bit_18 = refl;
+  bit_19 = refl;
+  bit_20 = refl;
+  bit_21 = refl;
+  bit_22 = refl;
+  bit_23 = refl;
+  bit_24 = refl;
+  bit_25 = refl;
+  bit_26 = refl;
+  bit_27 = refl;
+  bit_28 = refl;
+  bit_29 = refl;
+  bit_30 = refl;
+  bit_31 = refl;
+  all_that_fit = refl;
   gathered = refl;
 }
 
 pub notes : Notes
 unfolding opened
 notes = record {
-  buffer-0-offset-0-length-0 = refl;
-  buffer-0-offset-1-length-0 = refl;
-  buffer-0-offset-2-length-0 = refl;
-  buffer-0-offset-0-length-1 = refl;
-  buffer-0-offset-1-length-1 = refl;
-  buffer-0-offset-2-length-1 = refl;
-  buffer-0-offset-0-length-2 = refl;
-  buffer-0-offset-1-length-2 = refl;
-  buffer-0-offset-2-length-2 = refl;
-  buffer-0-offset-0-length-3 = refl;
-  buffer-0-offset-1-length-3 = refl;
-  buffer-0-offset-0-length-4 = refl;
-  buffer-1-offset-0-length-0 = refl;
-  buffer-1-offset-1-length-0 = refl;
-  buffer-1-offset-2-length-0 = refl;
-  buffer-1-offset-0-length-1 = refl;
-  buffer-1-offset-1-length-1 = refl;
-  buffer-1-offset-2-length-1 = refl;
-  buffer-1-offset-0-length-2 = refl;
-  buffer-1-offset-1-length-2 = refl;
-  buffer-1-offset-2-length-2 = refl;
-  buffer-1-offset-0-length-3 = refl;
-  buffer-1-offset-1-length-3 = refl;
-  buffer-1-offset-0-length-4 = refl;
-  buffer-2-offset-0-length-0 = refl;
-  buffer-2-offset-0-length-1 = refl;
-  buffer-2-offset-0-length-2 = refl;
-  buffer-2-offset-0-length-3 = refl;
-  buffer-2-offset-0-length-4 = refl;
+  buffer_0_offset_0_length_0 = refl;
+  buffer_0_offset_1_length_0 = refl;
+  buffer_0_offset_2_length_0 = refl;
+  buffer_0_offset_0_length_1 = refl;
+  buffer_0_offset_1_length_1 = refl;
+  buffer_0_offset_2_length_1 = refl;
+  buffer_0_offset_0_length_2 = refl;
+  buffer_0_offset_1_length_2 = refl;
+  buffer_0_offset_2_length_2 = refl;
+  buffer_0_offset_0_length_3 = refl;
+  buffer_0_offset_1_length_3 = refl;
+  buffer_0_offset_0_length_4 = refl;
+  buffer_1_offset_0_length_0 = refl;
+  buffer_1_offset_1_length_0 = refl;
+  buffer_1_offset_2_length_0 = refl;
+  buffer_1_offset_0_length_1 = refl;
+  buffer_1_offset_1_length_1 = refl;
+  buffer_1_offset_2_length_1 = refl;
+  buffer_1_offset_0_length_2 = refl;
+  buffer_1_offset_1_length_2 = refl;
+  buffer_1_offset_2_length_2 = refl;
+  buffer_1_offset_0_length_3 = refl;
+  buffer_1_offset_1_length_3 = refl;
+  buffer_1_offset_0_length_4 = refl;
+  buffer_2_offset_0_length_0 = refl;
+  buffer_2_offset_0_length_1 = refl;
+  buffer_2_offset_0_length_2 = refl;
+  buffer_2_offset_0_length_3 = refl;
+  buffer_2_offset_0_length_4 = refl;
 }
 
-pub few-positions : FewPositions
+pub few_positions : FewPositions
 unfolding opened
-few-positions = record {
-  at-23-13-left-3-most = refl;
-  at-23-13-left-3-one-more = refl;
-  at-23-14-left-3-most = refl;
-  at-23-14-left-3-one-more = refl;
-  at-23-15-left-3-most = refl;
-  at-23-15-left-3-one-more = refl;
-  at-23-14-left-2-most = refl;
-  at-23-14-left-2-one-more = refl;
-  at-23-15-left-2-most = refl;
-  at-23-15-left-2-one-more = refl;
-  at-23-15-left-1-most = refl;
-  at-23-15-left-1-one-more = refl;
+few_positions = record {
+  at_23_13_left_3_most = refl;
+  at_23_13_left_3_one_more = refl;
+  at_23_14_left_3_most = refl;
+  at_23_14_left_3_one_more = refl;
+  at_23_15_left_3_most = refl;
+  at_23_15_left_3_one_more = refl;
+  at_23_14_left_2_most = refl;
+  at_23_14_left_2_one_more = refl;
+  at_23_15_left_2_most = refl;
+  at_23_15_left_2_one_more = refl;
+  at_23_15_left_1_most = refl;
+  at_23_15_left_1_one_more = refl;
 }
 
 pub order : Order
 unfolding opened
 order = record {
-  ended-record = refl;
-  ended-with-zeros = refl;
-  ended-and-unfit = refl;
-  unfit-and-bad-reply = refl;
-  bad-reply = refl;
+  ended_record = refl;
+  ended_with_zeros = refl;
+  ended_and_unfit = refl;
+  unfit_and_bad_reply = refl;
+  bad_reply = refl;
 }
 
-pub refused-lists : RefusedLists
+pub refused_lists : RefusedLists
 unfolding opened
-refused-lists = record {
-  refusal-21 = refl;
-  refusal-20 = refl;
-  refusal-1 = refl;
-  refusal-2 = refl;
-  refusal-3 = refl;
-  refusal-4 = refl;
-  refusal-6 = refl;
-  refusal-7 = refl;
-  refusal-8 = refl;
-  refusal-9 = refl;
-  refusal-10 = refl;
-  refusal-11 = refl;
+refused_lists = record {
+  refusal_21 = refl;
+  refusal_20 = refl;
+  refusal_1 = refl;
+  refusal_2 = refl;
+  refusal_3 = refl;
+  refusal_4 = refl;
+  refusal_6 = refl;
+  refusal_7 = refl;
+  refusal_8 = refl;
+  refusal_9 = refl;
+  refusal_10 = refl;
+  refusal_11 = refl;
 }
 
 pub replies : Replies
 unfolding opened
 replies = record {
-  length-0 = refl;
-  length-1 = refl;
-  length-2 = refl;
-  length-3 = refl;
-  length-4 = refl;
-  length-5 = refl;
-  length-6 = refl;
-  length-7 = refl;
-  length-9 = refl;
-  length-16 = refl;
+  length_0 = refl;
+  length_1 = refl;
+  length_2 = refl;
+  length_3 = refl;
+  length_4 = refl;
+  length_5 = refl;
+  length_6 = refl;
+  length_7 = refl;
+  length_9 = refl;
+  length_16 = refl;
   kind_0 = refl;
   kind_1 = refl;
   kind_2 = refl;
   kind_3 = refl;
-  kind-4 = refl;
-  kind-5 = refl;
-  answer-byte-0-255 = refl;
-  answer-byte-1-64 = refl;
-  answer-byte-1-128 = refl;
-  answer-byte-1-63 = refl;
-  answer-byte-2-1 = refl;
-  answer-byte-3-1 = refl;
-  answer-byte-7-1 = refl;
-  answer-byte-6-255 = refl;
-  kind-1-byte-1 = refl;
-  kind-1-byte-2 = refl;
-  kind-1-byte-3 = refl;
-  kind-1-byte-4 = refl;
-  kind-1-byte-5 = refl;
-  kind-1-byte-6 = refl;
-  kind-1-byte-7 = refl;
-  kind-2-byte-1 = refl;
-  kind-2-byte-2 = refl;
-  kind-2-byte-3 = refl;
-  kind-2-byte-4 = refl;
-  kind-2-byte-5 = refl;
-  kind-2-byte-6 = refl;
-  kind-2-byte-7 = refl;
-  kind-3-byte-1 = refl;
-  kind-3-byte-2 = refl;
-  kind-3-byte-3 = refl;
-  kind-3-byte-4 = refl;
-  kind-3-byte-5 = refl;
-  kind-3-byte-6 = refl;
-  kind-3-byte-7 = refl;
+  kind_4 = refl;
+  kind_5 = refl;
+  answer_byte_0_255 = refl;
+  answer_byte_1_64 = refl;
+  answer_byte_1_128 = refl;
+  answer_byte_1_63 = refl;
+  answer_byte_2_1 = refl;
+  answer_byte_3_1 = refl;
+  answer_byte_7_1 = refl;
+  answer_byte_6_255 = refl;
+  kind_1_byte_1 = refl;
+  kind_1_byte_2 = refl;
+  kind_1_byte_3 = refl;
+  kind_1_byte_4 = refl;
+  kind_1_byte_5 = refl;
+  kind_1_byte_6 = refl;
+  kind_1_byte_7 = refl;
+  kind_2_byte_1 = refl;
+  kind_2_byte_2 = refl;
+  kind_2_byte_3 = refl;
+  kind_2_byte_4 = refl;
+  kind_2_byte_5 = refl;
+  kind_2_byte_6 = refl;
+  kind_2_byte_7 = refl;
+  kind_3_byte_1 = refl;
+  kind_3_byte_2 = refl;
+  kind_3_byte_3 = refl;
+  kind_3_byte_4 = refl;
+  kind_3_byte_5 = refl;
+  kind_3_byte_6 = refl;
+  kind_3_byte_7 = refl;
 }

@@ -4,50 +4,50 @@ use mathlib.Core.Path.{refl}
 use Rattle.worst_count.proofs.Cases.{opened}
 use Rattle.equations.specs.LastWords.{LengthsAndEnds, NoWord}
 
-pub lengths-and-ends : LengthsAndEnds
+pub lengths_and_ends : LengthsAndEnds
 unfolding opened
-lengths-and-ends = record {
-  buffer-0-offset-0-length-1 = refl;
-  buffer-0-offset-5-length-1 = refl;
-  buffer-0-offset-6-length-1 = refl;
-  buffer-0-offset-0-length-2 = refl;
-  buffer-0-offset-4-length-2 = refl;
-  buffer-0-offset-5-length-2 = refl;
-  buffer-0-offset-0-length-3 = refl;
-  buffer-0-offset-3-length-3 = refl;
-  buffer-0-offset-4-length-3 = refl;
-  buffer-0-offset-0-length-4 = refl;
-  buffer-0-offset-2-length-4 = refl;
-  buffer-0-offset-3-length-4 = refl;
-  whole-buffer-0 = refl;
-  longer-than-buffer-0 = refl;
-  buffer-1-offset-0-length-1 = refl;
-  buffer-1-offset-4-length-1 = refl;
-  buffer-1-offset-5-length-1 = refl;
-  buffer-1-offset-0-length-2 = refl;
-  buffer-1-offset-3-length-2 = refl;
-  buffer-1-offset-4-length-2 = refl;
-  buffer-1-offset-0-length-3 = refl;
-  buffer-1-offset-2-length-3 = refl;
-  buffer-1-offset-3-length-3 = refl;
-  buffer-1-offset-0-length-4 = refl;
-  buffer-1-offset-1-length-4 = refl;
-  buffer-1-offset-2-length-4 = refl;
-  whole-buffer-1 = refl;
-  longer-than-buffer-1 = refl;
+lengths_and_ends = record {
+  buffer_0_offset_0_length_1 = refl;
+  buffer_0_offset_5_length_1 = refl;
+  buffer_0_offset_6_length_1 = refl;
+  buffer_0_offset_0_length_2 = refl;
+  buffer_0_offset_4_length_2 = refl;
+  buffer_0_offset_5_length_2 = refl;
+  buffer_0_offset_0_length_3 = refl;
+  buffer_0_offset_3_length_3 = refl;
+  buffer_0_offset_4_length_3 = refl;
+  buffer_0_offset_0_length_4 = refl;
+  buffer_0_offset_2_length_4 = refl;
+  buffer_0_offset_3_length_4 = refl;
+  whole_buffer_0 = refl;
+  longer_than_buffer_0 = refl;
+  buffer_1_offset_0_length_1 = refl;
+  buffer_1_offset_4_length_1 = refl;
+  buffer_1_offset_5_length_1 = refl;
+  buffer_1_offset_0_length_2 = refl;
+  buffer_1_offset_3_length_2 = refl;
+  buffer_1_offset_4_length_2 = refl;
+  buffer_1_offset_0_length_3 = refl;
+  buffer_1_offset_2_length_3 = refl;
+  buffer_1_offset_3_length_3 = refl;
+  buffer_1_offset_0_length_4 = refl;
+  buffer_1_offset_1_length_4 = refl;
+  buffer_1_offset_2_length_4 = refl;
+  whole_buffer_1 = refl;
+  longer_than_buffer_1 = refl;
 }
 
 pub no_word : NoWord
 unfolding opened
 no_word = record {
   zeros = refl;
-  length-0-inside = refl;
-  length-0-of-outgoing = refl;
-  buffer-2 = refl;
-  buffer-255 = refl;
-  offset-far-outside = refl;
-  length-far-outside = refl;
-  empty-buffers-0-length-0 = refl;
-  empty-buffers-0-length-2 = refl;
-  empty-buffers-1-length-2 = refl;
+  length_0_inside = refl;
+  length_0_of_outgoing = refl;
+  buffer_2 = refl;
+  buffer_255 = refl;
+  offset_far_outside = refl;
+  length_far_outside = refl;
+  empty_buffers_0_length_0 = refl;
+  empty_buffers_0_length_2 = refl;
+  empty_buffers_1_length_2 = refl;
 }

@@ -14,1500 +14,1500 @@ use Rattle.equations.specs.Replies.{SingleRepeatRead24Other, SingleScanRead24Oth
 use Rattle.equations.specs.Replies.{EnhancedRepeatRead24Other, SequencerRead24Other, InlineStop24Other, InlineIgnore24Other, InlineRepeat24Other, InlineScan24Other, CausesInAStopSingle, CausesInAStopBlock}
 use Rattle.equations.specs.Replies.{CausesOnALastTry, CausesAtALastPosition}
 
-pub single-stop-read-16 : SingleStopRead16
-unfolding opened
-single-stop-read-16 = record {
-  ad-0-q-0-x-0 = refl;
-  ad-0-q-1-x-0 = refl;
-  ad-0-q-0-x-1 = refl;
-  ad-0-q-1-x-1 = refl;
-  ad-1-q-0-x-0 = refl;
-  ad-1-q-1-x-0 = refl;
-  ad-1-q-0-x-1 = refl;
-  ad-1-q-1-x-1 = refl;
-}
-
-pub single-stop-read-24 : SingleStopRead24
-unfolding opened
-single-stop-read-24 = record {
-  ad-0-q-0-x-0 = refl;
-  ad-0-q-1-x-0 = refl;
-  ad-0-q-0-x-1 = refl;
-  ad-0-q-1-x-1 = refl;
-  ad-1-q-0-x-0 = refl;
-  ad-1-q-1-x-0 = refl;
-  ad-1-q-0-x-1 = refl;
-  ad-1-q-1-x-1 = refl;
-}
-
-pub single-stop-write-16 : SingleStopWrite16
-unfolding opened
-single-stop-write-16 = record {
-  ad-0-q-0-x-0 = refl;
-  ad-0-q-1-x-0 = refl;
-  ad-0-q-0-x-1 = refl;
-  ad-0-q-1-x-1 = refl;
-  ad-1-q-0-x-0 = refl;
-  ad-1-q-1-x-0 = refl;
-  ad-1-q-0-x-1 = refl;
-  ad-1-q-1-x-1 = refl;
-}
-
-pub single-stop-write-24 : SingleStopWrite24
-unfolding opened
-single-stop-write-24 = record {
-  ad-0-q-0-x-0 = refl;
-  ad-0-q-1-x-0 = refl;
-  ad-0-q-0-x-1 = refl;
-  ad-0-q-1-x-1 = refl;
-  ad-1-q-0-x-0 = refl;
-  ad-1-q-1-x-0 = refl;
-  ad-1-q-0-x-1 = refl;
-  ad-1-q-1-x-1 = refl;
-}
-
-pub single-stop-control : SingleStopControl
-unfolding opened
-single-stop-control = record {
-  ad-0-q-0-x-0 = refl;
-  ad-0-q-1-x-0 = refl;
-  ad-0-q-0-x-1 = refl;
-  ad-0-q-1-x-1 = refl;
-  ad-1-q-0-x-0 = refl;
-  ad-1-q-1-x-0 = refl;
-  ad-1-q-0-x-1 = refl;
-  ad-1-q-1-x-1 = refl;
-}
-
-pub single-ignore-read-16 : SingleIgnoreRead16
-unfolding opened
-single-ignore-read-16 = record {
-  ad-0-q-0-x-0 = refl;
-  ad-0-q-1-x-0 = refl;
-  ad-0-q-0-x-1 = refl;
-  ad-0-q-1-x-1 = refl;
-  ad-1-q-0-x-0 = refl;
-  ad-1-q-1-x-0 = refl;
-  ad-1-q-0-x-1 = refl;
-  ad-1-q-1-x-1 = refl;
-}
-
-pub single-ignore-read-24 : SingleIgnoreRead24
-unfolding opened
-single-ignore-read-24 = record {
-  ad-0-q-0-x-0 = refl;
-  ad-0-q-1-x-0 = refl;
-  ad-0-q-0-x-1 = refl;
-  ad-0-q-1-x-1 = refl;
-  ad-1-q-0-x-0 = refl;
-  ad-1-q-1-x-0 = refl;
-  ad-1-q-0-x-1 = refl;
-  ad-1-q-1-x-1 = refl;
-}
-
-pub single-ignore-write-16 : SingleIgnoreWrite16
-unfolding opened
-single-ignore-write-16 = record {
-  ad-0-q-0-x-0 = refl;
-  ad-0-q-1-x-0 = refl;
-  ad-0-q-0-x-1 = refl;
-  ad-0-q-1-x-1 = refl;
-  ad-1-q-0-x-0 = refl;
-  ad-1-q-1-x-0 = refl;
-  ad-1-q-0-x-1 = refl;
-  ad-1-q-1-x-1 = refl;
-}
-
-pub single-ignore-write-24 : SingleIgnoreWrite24
-unfolding opened
-single-ignore-write-24 = record {
-  ad-0-q-0-x-0 = refl;
-  ad-0-q-1-x-0 = refl;
-  ad-0-q-0-x-1 = refl;
-  ad-0-q-1-x-1 = refl;
-  ad-1-q-0-x-0 = refl;
-  ad-1-q-1-x-0 = refl;
-  ad-1-q-0-x-1 = refl;
-  ad-1-q-1-x-1 = refl;
-}
-
-pub single-ignore-control : SingleIgnoreControl
-unfolding opened
-single-ignore-control = record {
-  ad-0-q-0-x-0 = refl;
-  ad-0-q-1-x-0 = refl;
-  ad-0-q-0-x-1 = refl;
-  ad-0-q-1-x-1 = refl;
-  ad-1-q-0-x-0 = refl;
-  ad-1-q-1-x-0 = refl;
-  ad-1-q-0-x-1 = refl;
-  ad-1-q-1-x-1 = refl;
-}
-
-pub single-repeat-read-16 : SingleRepeatRead16
-unfolding opened
-single-repeat-read-16 = record {
-  ad-0-q-0-x-0 = refl;
-  last-try-ad-0-q-0-x-0 = refl;
-  ad-0-q-1-x-0 = refl;
-  ad-0-q-0-x-1 = refl;
-  last-try-ad-0-q-0-x-1 = refl;
-  ad-0-q-1-x-1 = refl;
-  ad-1-q-0-x-0 = refl;
-  last-try-ad-1-q-0-x-0 = refl;
-  ad-1-q-1-x-0 = refl;
-  ad-1-q-0-x-1 = refl;
-  last-try-ad-1-q-0-x-1 = refl;
-  ad-1-q-1-x-1 = refl;
-}
-
-pub single-repeat-read-24 : SingleRepeatRead24
-unfolding opened
-single-repeat-read-24 = record {
-  ad-0-q-0-x-0 = refl;
-  last-try-ad-0-q-0-x-0 = refl;
-  ad-0-q-1-x-0 = refl;
-  ad-0-q-0-x-1 = refl;
-  last-try-ad-0-q-0-x-1 = refl;
-  ad-0-q-1-x-1 = refl;
-  ad-1-q-0-x-0 = refl;
-  last-try-ad-1-q-0-x-0 = refl;
-  ad-1-q-1-x-0 = refl;
-  ad-1-q-0-x-1 = refl;
-  last-try-ad-1-q-0-x-1 = refl;
-  ad-1-q-1-x-1 = refl;
-}
-
-pub single-repeat-write-16 : SingleRepeatWrite16
-unfolding opened
-single-repeat-write-16 = record {
-  ad-0-q-0-x-0 = refl;
-  last-try-ad-0-q-0-x-0 = refl;
-  ad-0-q-1-x-0 = refl;
-  ad-0-q-0-x-1 = refl;
-  last-try-ad-0-q-0-x-1 = refl;
-  ad-0-q-1-x-1 = refl;
-  ad-1-q-0-x-0 = refl;
-  last-try-ad-1-q-0-x-0 = refl;
-  ad-1-q-1-x-0 = refl;
-  ad-1-q-0-x-1 = refl;
-  last-try-ad-1-q-0-x-1 = refl;
-  ad-1-q-1-x-1 = refl;
-}
-
-pub single-repeat-write-24 : SingleRepeatWrite24
-unfolding opened
-single-repeat-write-24 = record {
-  ad-0-q-0-x-0 = refl;
-  last-try-ad-0-q-0-x-0 = refl;
-  ad-0-q-1-x-0 = refl;
-  ad-0-q-0-x-1 = refl;
-  last-try-ad-0-q-0-x-1 = refl;
-  ad-0-q-1-x-1 = refl;
-  ad-1-q-0-x-0 = refl;
-  last-try-ad-1-q-0-x-0 = refl;
-  ad-1-q-1-x-0 = refl;
-  ad-1-q-0-x-1 = refl;
-  last-try-ad-1-q-0-x-1 = refl;
-  ad-1-q-1-x-1 = refl;
-}
-
-pub single-repeat-control : SingleRepeatControl
-unfolding opened
-single-repeat-control = record {
-  ad-0-q-0-x-0 = refl;
-  last-try-ad-0-q-0-x-0 = refl;
-  ad-0-q-1-x-0 = refl;
-  ad-0-q-0-x-1 = refl;
-  last-try-ad-0-q-0-x-1 = refl;
-  ad-0-q-1-x-1 = refl;
-  ad-1-q-0-x-0 = refl;
-  last-try-ad-1-q-0-x-0 = refl;
-  ad-1-q-1-x-0 = refl;
-  ad-1-q-0-x-1 = refl;
-  last-try-ad-1-q-0-x-1 = refl;
-  ad-1-q-1-x-1 = refl;
-}
-
-pub single-scan-read-16 : SingleScanRead16
-unfolding opened
-single-scan-read-16 = record {
-  ad-0-q-0-x-0 = refl;
-  ad-0-q-1-x-0 = refl;
-  ad-0-q-0-x-1 = refl;
-  ad-0-q-1-x-1 = refl;
-  ad-1-q-0-x-0 = refl;
-  ad-1-q-1-x-0 = refl;
-  ad-1-q-0-x-1 = refl;
-  ad-1-q-1-x-1 = refl;
-}
-
-pub single-scan-read-24 : SingleScanRead24
-unfolding opened
-single-scan-read-24 = record {
-  ad-0-q-0-x-0 = refl;
-  ad-0-q-1-x-0 = refl;
-  ad-0-q-0-x-1 = refl;
-  ad-0-q-1-x-1 = refl;
-  ad-1-q-0-x-0 = refl;
-  ad-1-q-1-x-0 = refl;
-  ad-1-q-0-x-1 = refl;
-  ad-1-q-1-x-1 = refl;
-}
-
-pub single-scan-write-16 : SingleScanWrite16
-unfolding opened
-single-scan-write-16 = record {
-  ad-0-q-0-x-0 = refl;
-  ad-0-q-1-x-0 = refl;
-  ad-0-q-0-x-1 = refl;
-  ad-0-q-1-x-1 = refl;
-  ad-1-q-0-x-0 = refl;
-  ad-1-q-1-x-0 = refl;
-  ad-1-q-0-x-1 = refl;
-  ad-1-q-1-x-1 = refl;
-}
-
-pub single-scan-write-24 : SingleScanWrite24
-unfolding opened
-single-scan-write-24 = record {
-  ad-0-q-0-x-0 = refl;
-  ad-0-q-1-x-0 = refl;
-  ad-0-q-0-x-1 = refl;
-  ad-0-q-1-x-1 = refl;
-  ad-1-q-0-x-0 = refl;
-  ad-1-q-1-x-0 = refl;
-  ad-1-q-0-x-1 = refl;
-  ad-1-q-1-x-1 = refl;
-}
-
-pub single-scan-control : SingleScanControl
-unfolding opened
-single-scan-control = record {
-  ad-0-q-0-x-0 = refl;
-  ad-0-q-1-x-0 = refl;
-  ad-0-q-0-x-1 = refl;
-  ad-0-q-1-x-1 = refl;
-  ad-1-q-0-x-0 = refl;
-  ad-1-q-1-x-0 = refl;
-  ad-1-q-0-x-1 = refl;
-  ad-1-q-1-x-1 = refl;
-}
-
-pub block-stop-read-16 : BlockStopRead16
-unfolding opened
-block-stop-read-16 = record {
-  ad-0-q-0-x-0 = refl;
-  ad-0-q-1-x-0 = refl;
-  ad-0-q-0-x-1 = refl;
-  last-word-ad-0-q-0-x-1 = refl;
-  ad-0-q-1-x-1 = refl;
-  last-word-ad-0-q-1-x-1 = refl;
-  ad-1-q-0-x-0 = refl;
-  ad-1-q-1-x-0 = refl;
-  ad-1-q-0-x-1 = refl;
-  ad-1-q-1-x-1 = refl;
-}
-
-pub block-stop-read-24 : BlockStopRead24
-unfolding opened
-block-stop-read-24 = record {
-  ad-0-q-0-x-0 = refl;
-  ad-0-q-1-x-0 = refl;
-  ad-0-q-0-x-1 = refl;
-  last-word-ad-0-q-0-x-1 = refl;
-  ad-0-q-1-x-1 = refl;
-  last-word-ad-0-q-1-x-1 = refl;
-  ad-1-q-0-x-0 = refl;
-  ad-1-q-1-x-0 = refl;
-  ad-1-q-0-x-1 = refl;
-  ad-1-q-1-x-1 = refl;
-}
-
-pub block-stop-write-16 : BlockStopWrite16
-unfolding opened
-block-stop-write-16 = record {
-  ad-0-q-0-x-0 = refl;
-  ad-0-q-1-x-0 = refl;
-  ad-0-q-0-x-1 = refl;
-  last-word-ad-0-q-0-x-1 = refl;
-  ad-0-q-1-x-1 = refl;
-  last-word-ad-0-q-1-x-1 = refl;
-  ad-1-q-0-x-0 = refl;
-  ad-1-q-1-x-0 = refl;
-  ad-1-q-0-x-1 = refl;
-  ad-1-q-1-x-1 = refl;
-}
-
-pub block-stop-write-24 : BlockStopWrite24
-unfolding opened
-block-stop-write-24 = record {
-  ad-0-q-0-x-0 = refl;
-  ad-0-q-1-x-0 = refl;
-  ad-0-q-0-x-1 = refl;
-  last-word-ad-0-q-0-x-1 = refl;
-  ad-0-q-1-x-1 = refl;
-  last-word-ad-0-q-1-x-1 = refl;
-  ad-1-q-0-x-0 = refl;
-  ad-1-q-1-x-0 = refl;
-  ad-1-q-0-x-1 = refl;
-  ad-1-q-1-x-1 = refl;
-}
-
-pub block-ignore-read-16 : BlockIgnoreRead16
-unfolding opened
-block-ignore-read-16 = record {
-  ad-0-q-0-x-0 = refl;
-  ad-0-q-1-x-0 = refl;
-  ad-0-q-0-x-1 = refl;
-  last-word-ad-0-q-0-x-1 = refl;
-  ad-0-q-1-x-1 = refl;
-  last-word-ad-0-q-1-x-1 = refl;
-  ad-1-q-0-x-0 = refl;
-  ad-1-q-1-x-0 = refl;
-  ad-1-q-0-x-1 = refl;
-  ad-1-q-1-x-1 = refl;
-}
-
-pub block-ignore-read-24 : BlockIgnoreRead24
-unfolding opened
-block-ignore-read-24 = record {
-  ad-0-q-0-x-0 = refl;
-  ad-0-q-1-x-0 = refl;
-  ad-0-q-0-x-1 = refl;
-  last-word-ad-0-q-0-x-1 = refl;
-  ad-0-q-1-x-1 = refl;
-  last-word-ad-0-q-1-x-1 = refl;
-  ad-1-q-0-x-0 = refl;
-  ad-1-q-1-x-0 = refl;
-  ad-1-q-0-x-1 = refl;
-  ad-1-q-1-x-1 = refl;
-}
-
-pub block-ignore-write-16 : BlockIgnoreWrite16
-unfolding opened
-block-ignore-write-16 = record {
-  ad-0-q-0-x-0 = refl;
-  ad-0-q-1-x-0 = refl;
-  ad-0-q-0-x-1 = refl;
-  last-word-ad-0-q-0-x-1 = refl;
-  ad-0-q-1-x-1 = refl;
-  last-word-ad-0-q-1-x-1 = refl;
-  ad-1-q-0-x-0 = refl;
-  ad-1-q-1-x-0 = refl;
-  ad-1-q-0-x-1 = refl;
-  ad-1-q-1-x-1 = refl;
-}
-
-pub block-ignore-write-24 : BlockIgnoreWrite24
-unfolding opened
-block-ignore-write-24 = record {
-  ad-0-q-0-x-0 = refl;
-  ad-0-q-1-x-0 = refl;
-  ad-0-q-0-x-1 = refl;
-  last-word-ad-0-q-0-x-1 = refl;
-  ad-0-q-1-x-1 = refl;
-  last-word-ad-0-q-1-x-1 = refl;
-  ad-1-q-0-x-0 = refl;
-  ad-1-q-1-x-0 = refl;
-  ad-1-q-0-x-1 = refl;
-  ad-1-q-1-x-1 = refl;
-}
-
-pub block-repeat-read-16 : BlockRepeatRead16
-unfolding opened
-block-repeat-read-16 = record {
-  ad-0-q-0-x-0 = refl;
-  last-try-ad-0-q-0-x-0 = refl;
-  ad-0-q-1-x-0 = refl;
-  ad-0-q-0-x-1 = refl;
-  last-try-ad-0-q-0-x-1 = refl;
-  last-word-ad-0-q-0-x-1 = refl;
-  ad-0-q-1-x-1 = refl;
-  last-word-ad-0-q-1-x-1 = refl;
-  ad-1-q-0-x-0 = refl;
-  last-try-ad-1-q-0-x-0 = refl;
-  ad-1-q-1-x-0 = refl;
-  ad-1-q-0-x-1 = refl;
-  last-try-ad-1-q-0-x-1 = refl;
-  ad-1-q-1-x-1 = refl;
-}
-
-pub block-repeat-read-24 : BlockRepeatRead24
-unfolding opened
-block-repeat-read-24 = record {
-  ad-0-q-0-x-0 = refl;
-  last-try-ad-0-q-0-x-0 = refl;
-  ad-0-q-1-x-0 = refl;
-  ad-0-q-0-x-1 = refl;
-  last-try-ad-0-q-0-x-1 = refl;
-  last-word-ad-0-q-0-x-1 = refl;
-  ad-0-q-1-x-1 = refl;
-  last-word-ad-0-q-1-x-1 = refl;
-  ad-1-q-0-x-0 = refl;
-  last-try-ad-1-q-0-x-0 = refl;
-  ad-1-q-1-x-0 = refl;
-  ad-1-q-0-x-1 = refl;
-  last-try-ad-1-q-0-x-1 = refl;
-  ad-1-q-1-x-1 = refl;
-}
-
-pub block-repeat-write-16 : BlockRepeatWrite16
-unfolding opened
-block-repeat-write-16 = record {
-  ad-0-q-0-x-0 = refl;
-  last-try-ad-0-q-0-x-0 = refl;
-  ad-0-q-1-x-0 = refl;
-  ad-0-q-0-x-1 = refl;
-  last-try-ad-0-q-0-x-1 = refl;
-  last-word-ad-0-q-0-x-1 = refl;
-  ad-0-q-1-x-1 = refl;
-  last-word-ad-0-q-1-x-1 = refl;
-  ad-1-q-0-x-0 = refl;
-  last-try-ad-1-q-0-x-0 = refl;
-  ad-1-q-1-x-0 = refl;
-  ad-1-q-0-x-1 = refl;
-  last-try-ad-1-q-0-x-1 = refl;
-  ad-1-q-1-x-1 = refl;
-}
-
-pub block-repeat-write-24 : BlockRepeatWrite24
-unfolding opened
-block-repeat-write-24 = record {
-  ad-0-q-0-x-0 = refl;
-  last-try-ad-0-q-0-x-0 = refl;
-  ad-0-q-1-x-0 = refl;
-  ad-0-q-0-x-1 = refl;
-  last-try-ad-0-q-0-x-1 = refl;
-  last-word-ad-0-q-0-x-1 = refl;
-  ad-0-q-1-x-1 = refl;
-  last-word-ad-0-q-1-x-1 = refl;
-  ad-1-q-0-x-0 = refl;
-  last-try-ad-1-q-0-x-0 = refl;
-  ad-1-q-1-x-0 = refl;
-  ad-1-q-0-x-1 = refl;
-  last-try-ad-1-q-0-x-1 = refl;
-  ad-1-q-1-x-1 = refl;
-}
-
-pub block-scan-read-16 : BlockScanRead16
-unfolding opened
-block-scan-read-16 = record {
-  ad-0-q-0-x-0 = refl;
-  ad-0-q-1-x-0 = refl;
-  ad-0-q-0-x-1 = refl;
-  last-word-ad-0-q-0-x-1 = refl;
-  ad-0-q-1-x-1 = refl;
-  last-word-ad-0-q-1-x-1 = refl;
-  ad-1-q-0-x-0 = refl;
-  ad-1-q-1-x-0 = refl;
-  ad-1-q-0-x-1 = refl;
-  ad-1-q-1-x-1 = refl;
-}
-
-pub block-scan-read-24 : BlockScanRead24
-unfolding opened
-block-scan-read-24 = record {
-  ad-0-q-0-x-0 = refl;
-  ad-0-q-1-x-0 = refl;
-  ad-0-q-0-x-1 = refl;
-  last-word-ad-0-q-0-x-1 = refl;
-  ad-0-q-1-x-1 = refl;
-  last-word-ad-0-q-1-x-1 = refl;
-  ad-1-q-0-x-0 = refl;
-  ad-1-q-1-x-0 = refl;
-  ad-1-q-0-x-1 = refl;
-  ad-1-q-1-x-1 = refl;
-}
-
-pub block-scan-write-16 : BlockScanWrite16
-unfolding opened
-block-scan-write-16 = record {
-  ad-0-q-0-x-0 = refl;
-  ad-0-q-1-x-0 = refl;
-  ad-0-q-0-x-1 = refl;
-  last-word-ad-0-q-0-x-1 = refl;
-  ad-0-q-1-x-1 = refl;
-  last-word-ad-0-q-1-x-1 = refl;
-  ad-1-q-0-x-0 = refl;
-  ad-1-q-1-x-0 = refl;
-  ad-1-q-0-x-1 = refl;
-  ad-1-q-1-x-1 = refl;
-}
-
-pub block-scan-write-24 : BlockScanWrite24
-unfolding opened
-block-scan-write-24 = record {
-  ad-0-q-0-x-0 = refl;
-  ad-0-q-1-x-0 = refl;
-  ad-0-q-0-x-1 = refl;
-  last-word-ad-0-q-0-x-1 = refl;
-  ad-0-q-1-x-1 = refl;
-  last-word-ad-0-q-1-x-1 = refl;
-  ad-1-q-0-x-0 = refl;
-  ad-1-q-1-x-0 = refl;
-  ad-1-q-0-x-1 = refl;
-  ad-1-q-1-x-1 = refl;
-}
-
-pub enhanced-stop-read-16 : EnhancedStopRead16
-unfolding opened
-enhanced-stop-read-16 = record {
-  ad-0-q-0-x-0 = refl;
-  ad-0-q-1-x-0 = refl;
-  ad-0-q-0-x-1 = refl;
-  last-word-ad-0-q-0-x-1 = refl;
-  ad-0-q-1-x-1 = refl;
-  last-word-ad-0-q-1-x-1 = refl;
-  ad-1-q-0-x-0 = refl;
-  ad-1-q-1-x-0 = refl;
-  ad-1-q-0-x-1 = refl;
-  ad-1-q-1-x-1 = refl;
-}
-
-pub enhanced-stop-read-24 : EnhancedStopRead24
-unfolding opened
-enhanced-stop-read-24 = record {
-  ad-0-q-0-x-0 = refl;
-  ad-0-q-1-x-0 = refl;
-  ad-0-q-0-x-1 = refl;
-  last-word-ad-0-q-0-x-1 = refl;
-  ad-0-q-1-x-1 = refl;
-  last-word-ad-0-q-1-x-1 = refl;
-  ad-1-q-0-x-0 = refl;
-  ad-1-q-1-x-0 = refl;
-  ad-1-q-0-x-1 = refl;
-  ad-1-q-1-x-1 = refl;
-}
-
-pub enhanced-stop-write-16 : EnhancedStopWrite16
-unfolding opened
-enhanced-stop-write-16 = record {
-  ad-0-q-0-x-0 = refl;
-  ad-0-q-1-x-0 = refl;
-  ad-0-q-0-x-1 = refl;
-  last-word-ad-0-q-0-x-1 = refl;
-  ad-0-q-1-x-1 = refl;
-  last-word-ad-0-q-1-x-1 = refl;
-  ad-1-q-0-x-0 = refl;
-  ad-1-q-1-x-0 = refl;
-  ad-1-q-0-x-1 = refl;
-  ad-1-q-1-x-1 = refl;
-}
-
-pub enhanced-stop-write-24 : EnhancedStopWrite24
-unfolding opened
-enhanced-stop-write-24 = record {
-  ad-0-q-0-x-0 = refl;
-  ad-0-q-1-x-0 = refl;
-  ad-0-q-0-x-1 = refl;
-  last-word-ad-0-q-0-x-1 = refl;
-  ad-0-q-1-x-1 = refl;
-  last-word-ad-0-q-1-x-1 = refl;
-  ad-1-q-0-x-0 = refl;
-  ad-1-q-1-x-0 = refl;
-  ad-1-q-0-x-1 = refl;
-  ad-1-q-1-x-1 = refl;
-}
-
-pub enhanced-ignore-read-16 : EnhancedIgnoreRead16
-unfolding opened
-enhanced-ignore-read-16 = record {
-  ad-0-q-0-x-0 = refl;
-  ad-0-q-1-x-0 = refl;
-  ad-0-q-0-x-1 = refl;
-  last-word-ad-0-q-0-x-1 = refl;
-  ad-0-q-1-x-1 = refl;
-  last-word-ad-0-q-1-x-1 = refl;
-  ad-1-q-0-x-0 = refl;
-  ad-1-q-1-x-0 = refl;
-  ad-1-q-0-x-1 = refl;
-  ad-1-q-1-x-1 = refl;
-}
-
-pub enhanced-ignore-read-24 : EnhancedIgnoreRead24
-unfolding opened
-enhanced-ignore-read-24 = record {
-  ad-0-q-0-x-0 = refl;
-  ad-0-q-1-x-0 = refl;
-  ad-0-q-0-x-1 = refl;
-  last-word-ad-0-q-0-x-1 = refl;
-  ad-0-q-1-x-1 = refl;
-  last-word-ad-0-q-1-x-1 = refl;
-  ad-1-q-0-x-0 = refl;
-  ad-1-q-1-x-0 = refl;
-  ad-1-q-0-x-1 = refl;
-  ad-1-q-1-x-1 = refl;
-}
-
-pub enhanced-ignore-write-16 : EnhancedIgnoreWrite16
-unfolding opened
-enhanced-ignore-write-16 = record {
-  ad-0-q-0-x-0 = refl;
-  ad-0-q-1-x-0 = refl;
-  ad-0-q-0-x-1 = refl;
-  last-word-ad-0-q-0-x-1 = refl;
-  ad-0-q-1-x-1 = refl;
-  last-word-ad-0-q-1-x-1 = refl;
-  ad-1-q-0-x-0 = refl;
-  ad-1-q-1-x-0 = refl;
-  ad-1-q-0-x-1 = refl;
-  ad-1-q-1-x-1 = refl;
-}
-
-pub enhanced-ignore-write-24 : EnhancedIgnoreWrite24
-unfolding opened
-enhanced-ignore-write-24 = record {
-  ad-0-q-0-x-0 = refl;
-  ad-0-q-1-x-0 = refl;
-  ad-0-q-0-x-1 = refl;
-  last-word-ad-0-q-0-x-1 = refl;
-  ad-0-q-1-x-1 = refl;
-  last-word-ad-0-q-1-x-1 = refl;
-  ad-1-q-0-x-0 = refl;
-  ad-1-q-1-x-0 = refl;
-  ad-1-q-0-x-1 = refl;
-  ad-1-q-1-x-1 = refl;
-}
-
-pub enhanced-repeat-read-16 : EnhancedRepeatRead16
-unfolding opened
-enhanced-repeat-read-16 = record {
-  ad-0-q-0-x-0 = refl;
-  last-try-ad-0-q-0-x-0 = refl;
-  ad-0-q-1-x-0 = refl;
-  ad-0-q-0-x-1 = refl;
-  last-try-ad-0-q-0-x-1 = refl;
-  last-word-ad-0-q-0-x-1 = refl;
-  ad-0-q-1-x-1 = refl;
-  last-word-ad-0-q-1-x-1 = refl;
-  ad-1-q-0-x-0 = refl;
-  last-try-ad-1-q-0-x-0 = refl;
-  ad-1-q-1-x-0 = refl;
-  ad-1-q-0-x-1 = refl;
-  last-try-ad-1-q-0-x-1 = refl;
-  ad-1-q-1-x-1 = refl;
-}
-
-pub enhanced-repeat-read-24 : EnhancedRepeatRead24
-unfolding opened
-enhanced-repeat-read-24 = record {
-  ad-0-q-0-x-0 = refl;
-  last-try-ad-0-q-0-x-0 = refl;
-  ad-0-q-1-x-0 = refl;
-  ad-0-q-0-x-1 = refl;
-  last-try-ad-0-q-0-x-1 = refl;
-  last-word-ad-0-q-0-x-1 = refl;
-  ad-0-q-1-x-1 = refl;
-  last-word-ad-0-q-1-x-1 = refl;
-  ad-1-q-0-x-0 = refl;
-  last-try-ad-1-q-0-x-0 = refl;
-  ad-1-q-1-x-0 = refl;
-  ad-1-q-0-x-1 = refl;
-  last-try-ad-1-q-0-x-1 = refl;
-  ad-1-q-1-x-1 = refl;
-}
-
-pub sequencer-read-16 : SequencerRead16
-unfolding opened
-sequencer-read-16 = record {
-  ad-0-q-0-x-0 = refl;
-  ad-0-q-1-x-0 = refl;
-  ad-0-q-0-x-1 = refl;
-  last-word-ad-0-q-0-x-1 = refl;
-  ad-0-q-1-x-1 = refl;
-  last-word-ad-0-q-1-x-1 = refl;
-  ad-1-q-0-x-0 = refl;
-  ad-1-q-1-x-0 = refl;
-  ad-1-q-0-x-1 = refl;
-  ad-1-q-1-x-1 = refl;
-}
-
-pub sequencer-read-24 : SequencerRead24
-unfolding opened
-sequencer-read-24 = record {
-  ad-0-q-0-x-0 = refl;
-  ad-0-q-1-x-0 = refl;
-  ad-0-q-0-x-1 = refl;
-  last-word-ad-0-q-0-x-1 = refl;
-  ad-0-q-1-x-1 = refl;
-  last-word-ad-0-q-1-x-1 = refl;
-  ad-1-q-0-x-0 = refl;
-  ad-1-q-1-x-0 = refl;
-  ad-1-q-0-x-1 = refl;
-  ad-1-q-1-x-1 = refl;
-}
-
-pub sequencer-write-16 : SequencerWrite16
-unfolding opened
-sequencer-write-16 = record {
-  ad-0-q-0-x-0 = refl;
-  ad-0-q-1-x-0 = refl;
-  ad-0-q-0-x-1 = refl;
-  last-word-ad-0-q-0-x-1 = refl;
-  ad-0-q-1-x-1 = refl;
-  last-word-ad-0-q-1-x-1 = refl;
-  ad-1-q-0-x-0 = refl;
-  ad-1-q-1-x-0 = refl;
-  ad-1-q-0-x-1 = refl;
-  ad-1-q-1-x-1 = refl;
-}
-
-pub sequencer-write-24 : SequencerWrite24
-unfolding opened
-sequencer-write-24 = record {
-  ad-0-q-0-x-0 = refl;
-  ad-0-q-1-x-0 = refl;
-  ad-0-q-0-x-1 = refl;
-  last-word-ad-0-q-0-x-1 = refl;
-  ad-0-q-1-x-1 = refl;
-  last-word-ad-0-q-1-x-1 = refl;
-  ad-1-q-0-x-0 = refl;
-  ad-1-q-1-x-0 = refl;
-  ad-1-q-0-x-1 = refl;
-  ad-1-q-1-x-1 = refl;
-}
-
-pub inline-stop-16 : InlineStop16
-unfolding opened
-inline-stop-16 = record {
-  ad-0-q-0-x-0 = refl;
-  ad-0-q-1-x-0 = refl;
-  ad-0-q-0-x-1 = refl;
-  ad-0-q-1-x-1 = refl;
-  ad-1-q-0-x-0 = refl;
-  ad-1-q-1-x-0 = refl;
-  ad-1-q-0-x-1 = refl;
-  ad-1-q-1-x-1 = refl;
-}
-
-pub inline-stop-24 : InlineStop24
-unfolding opened
-inline-stop-24 = record {
-  ad-0-q-0-x-0 = refl;
-  ad-0-q-1-x-0 = refl;
-  ad-0-q-0-x-1 = refl;
-  ad-0-q-1-x-1 = refl;
-  ad-1-q-0-x-0 = refl;
-  ad-1-q-1-x-0 = refl;
-  ad-1-q-0-x-1 = refl;
-  ad-1-q-1-x-1 = refl;
-}
-
-pub inline-ignore-16 : InlineIgnore16
-unfolding opened
-inline-ignore-16 = record {
-  ad-0-q-0-x-0 = refl;
-  ad-0-q-1-x-0 = refl;
-  ad-0-q-0-x-1 = refl;
-  ad-0-q-1-x-1 = refl;
-  ad-1-q-0-x-0 = refl;
-  ad-1-q-1-x-0 = refl;
-  ad-1-q-0-x-1 = refl;
-  ad-1-q-1-x-1 = refl;
-}
-
-pub inline-ignore-24 : InlineIgnore24
-unfolding opened
-inline-ignore-24 = record {
-  ad-0-q-0-x-0 = refl;
-  ad-0-q-1-x-0 = refl;
-  ad-0-q-0-x-1 = refl;
-  ad-0-q-1-x-1 = refl;
-  ad-1-q-0-x-0 = refl;
-  ad-1-q-1-x-0 = refl;
-  ad-1-q-0-x-1 = refl;
-  ad-1-q-1-x-1 = refl;
-}
-
-pub inline-repeat-16 : InlineRepeat16
-unfolding opened
-inline-repeat-16 = record {
-  ad-0-q-0-x-0 = refl;
-  last-try-ad-0-q-0-x-0 = refl;
-  ad-0-q-1-x-0 = refl;
-  ad-0-q-0-x-1 = refl;
-  last-try-ad-0-q-0-x-1 = refl;
-  ad-0-q-1-x-1 = refl;
-  ad-1-q-0-x-0 = refl;
-  last-try-ad-1-q-0-x-0 = refl;
-  ad-1-q-1-x-0 = refl;
-  ad-1-q-0-x-1 = refl;
-  last-try-ad-1-q-0-x-1 = refl;
-  ad-1-q-1-x-1 = refl;
-}
-
-pub inline-repeat-24 : InlineRepeat24
-unfolding opened
-inline-repeat-24 = record {
-  ad-0-q-0-x-0 = refl;
-  last-try-ad-0-q-0-x-0 = refl;
-  ad-0-q-1-x-0 = refl;
-  ad-0-q-0-x-1 = refl;
-  last-try-ad-0-q-0-x-1 = refl;
-  ad-0-q-1-x-1 = refl;
-  ad-1-q-0-x-0 = refl;
-  last-try-ad-1-q-0-x-0 = refl;
-  ad-1-q-1-x-0 = refl;
-  ad-1-q-0-x-1 = refl;
-  last-try-ad-1-q-0-x-1 = refl;
-  ad-1-q-1-x-1 = refl;
-}
-
-pub inline-scan-16 : InlineScan16
-unfolding opened
-inline-scan-16 = record {
-  ad-0-q-0-x-0 = refl;
-  ad-0-q-1-x-0 = refl;
-  ad-0-q-0-x-1 = refl;
-  ad-0-q-1-x-1 = refl;
-  ad-1-q-0-x-0 = refl;
-  ad-1-q-1-x-0 = refl;
-  ad-1-q-0-x-1 = refl;
-  ad-1-q-1-x-1 = refl;
-}
-
-pub inline-scan-24 : InlineScan24
-unfolding opened
-inline-scan-24 = record {
-  ad-0-q-0-x-0 = refl;
-  ad-0-q-1-x-0 = refl;
-  ad-0-q-0-x-1 = refl;
-  ad-0-q-1-x-1 = refl;
-  ad-1-q-0-x-0 = refl;
-  ad-1-q-1-x-0 = refl;
-  ad-1-q-0-x-1 = refl;
-  ad-1-q-1-x-1 = refl;
-}
-
-pub block-scan-read-24-places : BlockScanRead24Places
-unfolding opened
-block-scan-read-24-places = record {
-  at-22-15-left-2-ad-0-q-0-x-0 = refl;
-  at-22-15-left-2-ad-0-q-1-x-0 = refl;
-  at-22-15-left-2-ad-0-q-0-x-1 = refl;
-  at-22-15-left-2-ad-0-q-1-x-1 = refl;
-  at-22-15-left-1-ad-0-q-0-x-0 = refl;
-  at-22-15-left-1-ad-0-q-1-x-0 = refl;
-  at-22-15-left-1-ad-0-q-0-x-1 = refl;
-  at-22-15-left-1-ad-0-q-1-x-1 = refl;
-  at-23-3-left-2-ad-0-q-0-x-0 = refl;
-  at-23-3-left-2-ad-0-q-1-x-0 = refl;
-  at-23-3-left-2-ad-0-q-0-x-1 = refl;
-  at-23-3-left-2-ad-0-q-1-x-1 = refl;
-  at-23-3-left-1-ad-0-q-0-x-0 = refl;
-  at-23-3-left-1-ad-0-q-1-x-0 = refl;
-  at-23-3-left-1-ad-0-q-0-x-1 = refl;
-  at-23-3-left-1-ad-0-q-1-x-1 = refl;
-  at-23-15-left-2-ad-0-q-0-x-0 = refl;
-  at-23-15-left-2-ad-0-q-1-x-0 = refl;
-  at-23-15-left-2-ad-0-q-0-x-1 = refl;
-  at-23-15-left-2-ad-0-q-1-x-1 = refl;
-  at-23-15-left-1-ad-0-q-0-x-0 = refl;
-  at-23-15-left-1-ad-0-q-1-x-0 = refl;
-  at-23-15-left-1-ad-0-q-0-x-1 = refl;
-  at-23-15-left-1-ad-0-q-1-x-1 = refl;
-  at-22-15-left-2-ad-1-q-0-x-0 = refl;
-  at-22-15-left-2-ad-1-q-1-x-0 = refl;
-  at-22-15-left-2-ad-1-q-0-x-1 = refl;
-  at-22-15-left-2-ad-1-q-1-x-1 = refl;
-  at-22-15-left-1-ad-1-q-0-x-0 = refl;
-  at-22-15-left-1-ad-1-q-1-x-0 = refl;
-  at-22-15-left-1-ad-1-q-0-x-1 = refl;
-  at-22-15-left-1-ad-1-q-1-x-1 = refl;
-  at-23-3-left-2-ad-1-q-0-x-0 = refl;
-  at-23-3-left-2-ad-1-q-1-x-0 = refl;
-  at-23-3-left-2-ad-1-q-0-x-1 = refl;
-  at-23-3-left-2-ad-1-q-1-x-1 = refl;
-  at-23-3-left-1-ad-1-q-0-x-0 = refl;
-  at-23-3-left-1-ad-1-q-1-x-0 = refl;
-  at-23-3-left-1-ad-1-q-0-x-1 = refl;
-  at-23-3-left-1-ad-1-q-1-x-1 = refl;
-  at-23-15-left-2-ad-1-q-0-x-0 = refl;
-  at-23-15-left-2-ad-1-q-1-x-0 = refl;
-  at-23-15-left-2-ad-1-q-0-x-1 = refl;
-  at-23-15-left-2-ad-1-q-1-x-1 = refl;
-  at-23-15-left-1-ad-1-q-0-x-0 = refl;
-  at-23-15-left-1-ad-1-q-1-x-0 = refl;
-  at-23-15-left-1-ad-1-q-0-x-1 = refl;
-  at-23-15-left-1-ad-1-q-1-x-1 = refl;
-}
-
-pub block-scan-write-16-places : BlockScanWrite16Places
-unfolding opened
-block-scan-write-16-places = record {
-  at-22-15-left-2-ad-0-q-0-x-0 = refl;
-  at-22-15-left-2-ad-0-q-1-x-0 = refl;
-  at-22-15-left-2-ad-0-q-0-x-1 = refl;
-  at-22-15-left-2-ad-0-q-1-x-1 = refl;
-  at-22-15-left-1-ad-0-q-0-x-0 = refl;
-  at-22-15-left-1-ad-0-q-1-x-0 = refl;
-  at-22-15-left-1-ad-0-q-0-x-1 = refl;
-  at-22-15-left-1-ad-0-q-1-x-1 = refl;
-  at-23-3-left-2-ad-0-q-0-x-0 = refl;
-  at-23-3-left-2-ad-0-q-1-x-0 = refl;
-  at-23-3-left-2-ad-0-q-0-x-1 = refl;
-  at-23-3-left-2-ad-0-q-1-x-1 = refl;
-  at-23-3-left-1-ad-0-q-0-x-0 = refl;
-  at-23-3-left-1-ad-0-q-1-x-0 = refl;
-  at-23-3-left-1-ad-0-q-0-x-1 = refl;
-  at-23-3-left-1-ad-0-q-1-x-1 = refl;
-  at-23-15-left-2-ad-0-q-0-x-0 = refl;
-  at-23-15-left-2-ad-0-q-1-x-0 = refl;
-  at-23-15-left-2-ad-0-q-0-x-1 = refl;
-  at-23-15-left-2-ad-0-q-1-x-1 = refl;
-  at-23-15-left-1-ad-0-q-0-x-0 = refl;
-  at-23-15-left-1-ad-0-q-1-x-0 = refl;
-  at-23-15-left-1-ad-0-q-0-x-1 = refl;
-  at-23-15-left-1-ad-0-q-1-x-1 = refl;
-}
-
-pub single-scan-read-24-places : SingleScanRead24Places
-unfolding opened
-single-scan-read-24-places = record {
-  at-22-15-left-1-ad-0-q-0-x-0 = refl;
-  at-22-15-left-1-ad-0-q-1-x-0 = refl;
-  at-22-15-left-1-ad-0-q-0-x-1 = refl;
-  at-22-15-left-1-ad-0-q-1-x-1 = refl;
-  at-23-3-left-1-ad-0-q-0-x-0 = refl;
-  at-23-3-left-1-ad-0-q-1-x-0 = refl;
-  at-23-3-left-1-ad-0-q-0-x-1 = refl;
-  at-23-3-left-1-ad-0-q-1-x-1 = refl;
-  at-23-15-left-1-ad-0-q-0-x-0 = refl;
-  at-23-15-left-1-ad-0-q-1-x-0 = refl;
-  at-23-15-left-1-ad-0-q-0-x-1 = refl;
-  at-23-15-left-1-ad-0-q-1-x-1 = refl;
-}
-
-pub inline-scan-24-places : InlineScan24Places
-unfolding opened
-inline-scan-24-places = record {
-  at-22-15-left-1-ad-0-q-0-x-0 = refl;
-  at-22-15-left-1-ad-0-q-1-x-0 = refl;
-  at-22-15-left-1-ad-0-q-0-x-1 = refl;
-  at-22-15-left-1-ad-0-q-1-x-1 = refl;
-  at-23-3-left-1-ad-0-q-0-x-0 = refl;
-  at-23-3-left-1-ad-0-q-1-x-0 = refl;
-  at-23-3-left-1-ad-0-q-0-x-1 = refl;
-  at-23-3-left-1-ad-0-q-1-x-1 = refl;
-  at-23-15-left-1-ad-0-q-0-x-0 = refl;
-  at-23-15-left-1-ad-0-q-1-x-0 = refl;
-  at-23-15-left-1-ad-0-q-0-x-1 = refl;
-  at-23-15-left-1-ad-0-q-1-x-1 = refl;
-}
-
-pub single-stop-read-24-other : SingleStopRead24Other
-unfolding opened
-single-stop-read-24-other = record {
-  ad-0-err = refl;
-  ad-0-err-x-0 = refl;
-  ad-0-err-q-0 = refl;
-  ad-0-derr = refl;
-  ad-0-tpe = refl;
-  ad-0-lpe = refl;
-  ad-0-kind-1 = refl;
-  ad-0-kind-2 = refl;
-  ad-0-kind-3 = refl;
-  ad-1-err = refl;
-  ad-1-err-x-0 = refl;
-  ad-1-err-q-0 = refl;
-  ad-1-derr = refl;
-  ad-1-tpe = refl;
-  ad-1-lpe = refl;
-  ad-1-kind-1 = refl;
-  ad-1-kind-2 = refl;
-  ad-1-kind-3 = refl;
-}
-
-pub single-ignore-read-24-other : SingleIgnoreRead24Other
-unfolding opened
-single-ignore-read-24-other = record {
-  ad-0-err = refl;
-  ad-0-err-x-0 = refl;
-  ad-0-err-q-0 = refl;
-  ad-0-derr = refl;
-  ad-0-tpe = refl;
-  ad-0-lpe = refl;
-  ad-0-kind-1 = refl;
-  ad-0-kind-2 = refl;
-  ad-0-kind-3 = refl;
-  ad-1-err = refl;
-  ad-1-err-x-0 = refl;
-  ad-1-err-q-0 = refl;
-  ad-1-derr = refl;
-  ad-1-tpe = refl;
-  ad-1-lpe = refl;
-  ad-1-kind-1 = refl;
-  ad-1-kind-2 = refl;
-  ad-1-kind-3 = refl;
-}
-
-pub single-repeat-read-24-other : SingleRepeatRead24Other
-unfolding opened
-single-repeat-read-24-other = record {
-  ad-0-err = refl;
-  ad-0-err-x-0 = refl;
-  ad-0-err-q-0 = refl;
-  ad-0-derr = refl;
-  ad-0-tpe = refl;
-  ad-0-lpe = refl;
-  ad-0-kind-1 = refl;
-  ad-0-kind-2 = refl;
-  ad-0-kind-3 = refl;
-  ad-1-err = refl;
-  ad-1-err-x-0 = refl;
-  ad-1-err-q-0 = refl;
-  ad-1-derr = refl;
-  ad-1-tpe = refl;
-  ad-1-lpe = refl;
-  ad-1-kind-1 = refl;
-  ad-1-kind-2 = refl;
-  ad-1-kind-3 = refl;
-}
-
-pub single-scan-read-24-other : SingleScanRead24Other
-unfolding opened
-single-scan-read-24-other = record {
-  ad-0-err = refl;
-  ad-0-err-x-0 = refl;
-  ad-0-err-q-0 = refl;
-  ad-0-derr = refl;
-  ad-0-tpe = refl;
-  ad-0-lpe = refl;
-  ad-0-kind-1 = refl;
-  ad-0-kind-2 = refl;
-  ad-0-kind-3 = refl;
-  ad-1-err = refl;
-  ad-1-err-x-0 = refl;
-  ad-1-err-q-0 = refl;
-  ad-1-derr = refl;
-  ad-1-tpe = refl;
-  ad-1-lpe = refl;
-  ad-1-kind-1 = refl;
-  ad-1-kind-2 = refl;
-  ad-1-kind-3 = refl;
-}
-
-pub block-stop-read-24-other : BlockStopRead24Other
-unfolding opened
-block-stop-read-24-other = record {
-  ad-0-err = refl;
-  ad-0-err-x-0 = refl;
-  ad-0-err-q-0 = refl;
-  ad-0-derr = refl;
-  ad-0-tpe = refl;
-  ad-0-lpe = refl;
-  ad-0-kind-1 = refl;
-  ad-0-kind-2 = refl;
-  ad-0-kind-3 = refl;
-  ad-1-err = refl;
-  ad-1-err-x-0 = refl;
-  ad-1-err-q-0 = refl;
-  ad-1-derr = refl;
-  ad-1-tpe = refl;
-  ad-1-lpe = refl;
-  ad-1-kind-1 = refl;
-  ad-1-kind-2 = refl;
-  ad-1-kind-3 = refl;
-}
-
-pub block-ignore-read-24-other : BlockIgnoreRead24Other
-unfolding opened
-block-ignore-read-24-other = record {
-  ad-0-err = refl;
-  ad-0-err-x-0 = refl;
-  ad-0-err-q-0 = refl;
-  ad-0-derr = refl;
-  ad-0-tpe = refl;
-  ad-0-lpe = refl;
-  ad-0-kind-1 = refl;
-  ad-0-kind-2 = refl;
-  ad-0-kind-3 = refl;
-  ad-1-err = refl;
-  ad-1-err-x-0 = refl;
-  ad-1-err-q-0 = refl;
-  ad-1-derr = refl;
-  ad-1-tpe = refl;
-  ad-1-lpe = refl;
-  ad-1-kind-1 = refl;
-  ad-1-kind-2 = refl;
-  ad-1-kind-3 = refl;
-}
-
-pub block-repeat-read-24-other : BlockRepeatRead24Other
-unfolding opened
-block-repeat-read-24-other = record {
-  ad-0-err = refl;
-  ad-0-err-x-0 = refl;
-  ad-0-err-q-0 = refl;
-  ad-0-derr = refl;
-  ad-0-tpe = refl;
-  ad-0-lpe = refl;
-  ad-0-kind-1 = refl;
-  ad-0-kind-2 = refl;
-  ad-0-kind-3 = refl;
-  ad-1-err = refl;
-  ad-1-err-x-0 = refl;
-  ad-1-err-q-0 = refl;
-  ad-1-derr = refl;
-  ad-1-tpe = refl;
-  ad-1-lpe = refl;
-  ad-1-kind-1 = refl;
-  ad-1-kind-2 = refl;
-  ad-1-kind-3 = refl;
-}
-
-pub block-scan-read-24-other : BlockScanRead24Other
-unfolding opened
-block-scan-read-24-other = record {
-  ad-0-err = refl;
-  ad-0-err-x-0 = refl;
-  ad-0-err-q-0 = refl;
-  ad-0-derr = refl;
-  ad-0-tpe = refl;
-  ad-0-lpe = refl;
-  ad-0-kind-1 = refl;
-  ad-0-kind-2 = refl;
-  ad-0-kind-3 = refl;
-  ad-1-err = refl;
-  ad-1-err-x-0 = refl;
-  ad-1-err-q-0 = refl;
-  ad-1-derr = refl;
-  ad-1-tpe = refl;
-  ad-1-lpe = refl;
-  ad-1-kind-1 = refl;
-  ad-1-kind-2 = refl;
-  ad-1-kind-3 = refl;
-}
-
-pub enhanced-stop-read-24-other : EnhancedStopRead24Other
-unfolding opened
-enhanced-stop-read-24-other = record {
-  ad-0-err = refl;
-  ad-0-err-x-0 = refl;
-  ad-0-err-q-0 = refl;
-  ad-0-derr = refl;
-  ad-0-tpe = refl;
-  ad-0-lpe = refl;
-  ad-0-kind-1 = refl;
-  ad-0-kind-2 = refl;
-  ad-0-kind-3 = refl;
-  ad-1-err = refl;
-  ad-1-err-x-0 = refl;
-  ad-1-err-q-0 = refl;
-  ad-1-derr = refl;
-  ad-1-tpe = refl;
-  ad-1-lpe = refl;
-  ad-1-kind-1 = refl;
-  ad-1-kind-2 = refl;
-  ad-1-kind-3 = refl;
-}
-
-pub enhanced-ignore-read-24-other : EnhancedIgnoreRead24Other
-unfolding opened
-enhanced-ignore-read-24-other = record {
-  ad-0-err = refl;
-  ad-0-err-x-0 = refl;
-  ad-0-err-q-0 = refl;
-  ad-0-derr = refl;
-  ad-0-tpe = refl;
-  ad-0-lpe = refl;
-  ad-0-kind-1 = refl;
-  ad-0-kind-2 = refl;
-  ad-0-kind-3 = refl;
-  ad-1-err = refl;
-  ad-1-err-x-0 = refl;
-  ad-1-err-q-0 = refl;
-  ad-1-derr = refl;
-  ad-1-tpe = refl;
-  ad-1-lpe = refl;
-  ad-1-kind-1 = refl;
-  ad-1-kind-2 = refl;
-  ad-1-kind-3 = refl;
-}
-
-pub enhanced-repeat-read-24-other : EnhancedRepeatRead24Other
-unfolding opened
-enhanced-repeat-read-24-other = record {
-  ad-0-err = refl;
-  ad-0-err-x-0 = refl;
-  ad-0-err-q-0 = refl;
-  ad-0-derr = refl;
-  ad-0-tpe = refl;
-  ad-0-lpe = refl;
-  ad-0-kind-1 = refl;
-  ad-0-kind-2 = refl;
-  ad-0-kind-3 = refl;
-  ad-1-err = refl;
-  ad-1-err-x-0 = refl;
-  ad-1-err-q-0 = refl;
-  ad-1-derr = refl;
-  ad-1-tpe = refl;
-  ad-1-lpe = refl;
-  ad-1-kind-1 = refl;
-  ad-1-kind-2 = refl;
-  ad-1-kind-3 = refl;
-}
-
-pub sequencer-read-24-other : SequencerRead24Other
-unfolding opened
-sequencer-read-24-other = record {
-  ad-0-err = refl;
-  ad-0-err-x-0 = refl;
-  ad-0-err-q-0 = refl;
-  ad-0-derr = refl;
-  ad-0-tpe = refl;
-  ad-0-lpe = refl;
-  ad-0-kind-1 = refl;
-  ad-0-kind-2 = refl;
-  ad-0-kind-3 = refl;
-  ad-1-err = refl;
-  ad-1-err-x-0 = refl;
-  ad-1-err-q-0 = refl;
-  ad-1-derr = refl;
-  ad-1-tpe = refl;
-  ad-1-lpe = refl;
-  ad-1-kind-1 = refl;
-  ad-1-kind-2 = refl;
-  ad-1-kind-3 = refl;
-}
-
-pub inline-stop-24-other : InlineStop24Other
-unfolding opened
-inline-stop-24-other = record {
-  ad-0-err = refl;
-  ad-0-err-x-0 = refl;
-  ad-0-err-q-0 = refl;
-  ad-0-derr = refl;
-  ad-0-tpe = refl;
-  ad-0-lpe = refl;
-  ad-0-kind-1 = refl;
-  ad-0-kind-2 = refl;
-  ad-0-kind-3 = refl;
-  ad-1-err = refl;
-  ad-1-err-x-0 = refl;
-  ad-1-err-q-0 = refl;
-  ad-1-derr = refl;
-  ad-1-tpe = refl;
-  ad-1-lpe = refl;
-  ad-1-kind-1 = refl;
-  ad-1-kind-2 = refl;
-  ad-1-kind-3 = refl;
-}
-
-pub inline-ignore-24-other : InlineIgnore24Other
-unfolding opened
-inline-ignore-24-other = record {
-  ad-0-err = refl;
-  ad-0-err-x-0 = refl;
-  ad-0-err-q-0 = refl;
-  ad-0-derr = refl;
-  ad-0-tpe = refl;
-  ad-0-lpe = refl;
-  ad-0-kind-1 = refl;
-  ad-0-kind-2 = refl;
-  ad-0-kind-3 = refl;
-  ad-1-err = refl;
-  ad-1-err-x-0 = refl;
-  ad-1-err-q-0 = refl;
-  ad-1-derr = refl;
-  ad-1-tpe = refl;
-  ad-1-lpe = refl;
-  ad-1-kind-1 = refl;
-  ad-1-kind-2 = refl;
-  ad-1-kind-3 = refl;
-}
-
-pub inline-repeat-24-other : InlineRepeat24Other
-unfolding opened
-inline-repeat-24-other = record {
-  ad-0-err = refl;
-  ad-0-err-x-0 = refl;
-  ad-0-err-q-0 = refl;
-  ad-0-derr = refl;
-  ad-0-tpe = refl;
-  ad-0-lpe = refl;
-  ad-0-kind-1 = refl;
-  ad-0-kind-2 = refl;
-  ad-0-kind-3 = refl;
-  ad-1-err = refl;
-  ad-1-err-x-0 = refl;
-  ad-1-err-q-0 = refl;
-  ad-1-derr = refl;
-  ad-1-tpe = refl;
-  ad-1-lpe = refl;
-  ad-1-kind-1 = refl;
-  ad-1-kind-2 = refl;
-  ad-1-kind-3 = refl;
-}
-
-pub inline-scan-24-other : InlineScan24Other
-unfolding opened
-inline-scan-24-other = record {
-  ad-0-err = refl;
-  ad-0-err-x-0 = refl;
-  ad-0-err-q-0 = refl;
-  ad-0-derr = refl;
-  ad-0-tpe = refl;
-  ad-0-lpe = refl;
-  ad-0-kind-1 = refl;
-  ad-0-kind-2 = refl;
-  ad-0-kind-3 = refl;
-  ad-1-err = refl;
-  ad-1-err-x-0 = refl;
-  ad-1-err-q-0 = refl;
-  ad-1-derr = refl;
-  ad-1-tpe = refl;
-  ad-1-lpe = refl;
-  ad-1-kind-1 = refl;
-  ad-1-kind-2 = refl;
-  ad-1-kind-3 = refl;
-}
-
-pub causes-in-a-stop-single : CausesInAStopSingle
-unfolding opened
-causes-in-a-stop-single = record {
-  ad-0-none = refl;
-  ad-0-q = refl;
-  ad-0-x = refl;
-  ad-0-q-x = refl;
-  ad-0-err = refl;
-  ad-0-q-err = refl;
-  ad-0-x-err = refl;
-  ad-0-q-x-err = refl;
-  ad-0-lpe = refl;
-  ad-0-q-lpe = refl;
-  ad-0-x-lpe = refl;
-  ad-0-q-x-lpe = refl;
-  ad-0-err-lpe = refl;
-  ad-0-q-err-lpe = refl;
-  ad-0-x-err-lpe = refl;
-  ad-0-q-x-err-lpe = refl;
-  ad-1-none = refl;
-  ad-1-q = refl;
-  ad-1-x = refl;
-  ad-1-q-x = refl;
-  ad-1-err = refl;
-  ad-1-q-err = refl;
-  ad-1-x-err = refl;
-  ad-1-q-x-err = refl;
-  ad-1-lpe = refl;
-  ad-1-q-lpe = refl;
-  ad-1-x-lpe = refl;
-  ad-1-q-x-lpe = refl;
-  ad-1-err-lpe = refl;
-  ad-1-q-err-lpe = refl;
-  ad-1-x-err-lpe = refl;
-  ad-1-q-x-err-lpe = refl;
-}
-
-pub causes-in-a-stop-block : CausesInAStopBlock
-unfolding opened
-causes-in-a-stop-block = record {
-  ad-0-none = refl;
-  ad-0-q = refl;
-  ad-0-x = refl;
-  ad-0-q-x = refl;
-  ad-0-err = refl;
-  ad-0-q-err = refl;
-  ad-0-x-err = refl;
-  ad-0-q-x-err = refl;
-  ad-0-lpe = refl;
-  ad-0-q-lpe = refl;
-  ad-0-x-lpe = refl;
-  ad-0-q-x-lpe = refl;
-  ad-0-err-lpe = refl;
-  ad-0-q-err-lpe = refl;
-  ad-0-x-err-lpe = refl;
-  ad-0-q-x-err-lpe = refl;
-  ad-1-none = refl;
-  ad-1-q = refl;
-  ad-1-x = refl;
-  ad-1-q-x = refl;
-  ad-1-err = refl;
-  ad-1-q-err = refl;
-  ad-1-x-err = refl;
-  ad-1-q-x-err = refl;
-  ad-1-lpe = refl;
-  ad-1-q-lpe = refl;
-  ad-1-x-lpe = refl;
-  ad-1-q-x-lpe = refl;
-  ad-1-err-lpe = refl;
-  ad-1-q-err-lpe = refl;
-  ad-1-x-err-lpe = refl;
-  ad-1-q-x-err-lpe = refl;
-}
-
-pub causes-on-a-last-try : CausesOnALastTry
-unfolding opened
-causes-on-a-last-try = record {
-  ad-0-none = refl;
-  ad-0-q = refl;
-  ad-0-x = refl;
-  ad-0-q-x = refl;
-  ad-0-err = refl;
-  ad-0-q-err = refl;
-  ad-0-x-err = refl;
-  ad-0-q-x-err = refl;
-  ad-0-lpe = refl;
-  ad-0-q-lpe = refl;
-  ad-0-x-lpe = refl;
-  ad-0-q-x-lpe = refl;
-  ad-0-err-lpe = refl;
-  ad-0-q-err-lpe = refl;
-  ad-0-x-err-lpe = refl;
-  ad-0-q-x-err-lpe = refl;
-  ad-1-none = refl;
-  ad-1-q = refl;
-  ad-1-x = refl;
-  ad-1-q-x = refl;
-  ad-1-err = refl;
-  ad-1-q-err = refl;
-  ad-1-x-err = refl;
-  ad-1-q-x-err = refl;
-  ad-1-lpe = refl;
-  ad-1-q-lpe = refl;
-  ad-1-x-lpe = refl;
-  ad-1-q-x-lpe = refl;
-  ad-1-err-lpe = refl;
-  ad-1-q-err-lpe = refl;
-  ad-1-x-err-lpe = refl;
-  ad-1-q-x-err-lpe = refl;
-}
-
-pub causes-at-a-last-position : CausesAtALastPosition
-unfolding opened
-causes-at-a-last-position = record {
-  ad-0-none = refl;
-  ad-0-q = refl;
-  ad-0-x = refl;
-  ad-0-q-x = refl;
-  ad-0-err = refl;
-  ad-0-q-err = refl;
-  ad-0-x-err = refl;
-  ad-0-q-x-err = refl;
-  ad-0-lpe = refl;
-  ad-0-q-lpe = refl;
-  ad-0-x-lpe = refl;
-  ad-0-q-x-lpe = refl;
-  ad-0-err-lpe = refl;
-  ad-0-q-err-lpe = refl;
-  ad-0-x-err-lpe = refl;
-  ad-0-q-x-err-lpe = refl;
-  ad-1-none = refl;
-  ad-1-q = refl;
-  ad-1-x = refl;
-  ad-1-q-x = refl;
-  ad-1-err = refl;
-  ad-1-q-err = refl;
-  ad-1-x-err = refl;
-  ad-1-q-x-err = refl;
-  ad-1-lpe = refl;
-  ad-1-q-lpe = refl;
-  ad-1-x-lpe = refl;
-  ad-1-q-x-lpe = refl;
-  ad-1-err-lpe = refl;
-  ad-1-q-err-lpe = refl;
-  ad-1-x-err-lpe = refl;
-  ad-1-q-x-err-lpe = refl;
+pub single_stop_read_16 : SingleStopRead16
+unfolding opened
+single_stop_read_16 = record {
+  ad_0_q_0_x_0 = refl;
+  ad_0_q_1_x_0 = refl;
+  ad_0_q_0_x_1 = refl;
+  ad_0_q_1_x_1 = refl;
+  ad_1_q_0_x_0 = refl;
+  ad_1_q_1_x_0 = refl;
+  ad_1_q_0_x_1 = refl;
+  ad_1_q_1_x_1 = refl;
+}
+
+pub single_stop_read_24 : SingleStopRead24
+unfolding opened
+single_stop_read_24 = record {
+  ad_0_q_0_x_0 = refl;
+  ad_0_q_1_x_0 = refl;
+  ad_0_q_0_x_1 = refl;
+  ad_0_q_1_x_1 = refl;
+  ad_1_q_0_x_0 = refl;
+  ad_1_q_1_x_0 = refl;
+  ad_1_q_0_x_1 = refl;
+  ad_1_q_1_x_1 = refl;
+}
+
+pub single_stop_write_16 : SingleStopWrite16
+unfolding opened
+single_stop_write_16 = record {
+  ad_0_q_0_x_0 = refl;
+  ad_0_q_1_x_0 = refl;
+  ad_0_q_0_x_1 = refl;
+  ad_0_q_1_x_1 = refl;
+  ad_1_q_0_x_0 = refl;
+  ad_1_q_1_x_0 = refl;
+  ad_1_q_0_x_1 = refl;
+  ad_1_q_1_x_1 = refl;
+}
+
+pub single_stop_write_24 : SingleStopWrite24
+unfolding opened
+single_stop_write_24 = record {
+  ad_0_q_0_x_0 = refl;
+  ad_0_q_1_x_0 = refl;
+  ad_0_q_0_x_1 = refl;
+  ad_0_q_1_x_1 = refl;
+  ad_1_q_0_x_0 = refl;
+  ad_1_q_1_x_0 = refl;
+  ad_1_q_0_x_1 = refl;
+  ad_1_q_1_x_1 = refl;
+}
+
+pub single_stop_control : SingleStopControl
+unfolding opened
+single_stop_control = record {
+  ad_0_q_0_x_0 = refl;
+  ad_0_q_1_x_0 = refl;
+  ad_0_q_0_x_1 = refl;
+  ad_0_q_1_x_1 = refl;
+  ad_1_q_0_x_0 = refl;
+  ad_1_q_1_x_0 = refl;
+  ad_1_q_0_x_1 = refl;
+  ad_1_q_1_x_1 = refl;
+}
+
+pub single_ignore_read_16 : SingleIgnoreRead16
+unfolding opened
+single_ignore_read_16 = record {
+  ad_0_q_0_x_0 = refl;
+  ad_0_q_1_x_0 = refl;
+  ad_0_q_0_x_1 = refl;
+  ad_0_q_1_x_1 = refl;
+  ad_1_q_0_x_0 = refl;
+  ad_1_q_1_x_0 = refl;
+  ad_1_q_0_x_1 = refl;
+  ad_1_q_1_x_1 = refl;
+}
+
+pub single_ignore_read_24 : SingleIgnoreRead24
+unfolding opened
+single_ignore_read_24 = record {
+  ad_0_q_0_x_0 = refl;
+  ad_0_q_1_x_0 = refl;
+  ad_0_q_0_x_1 = refl;
+  ad_0_q_1_x_1 = refl;
+  ad_1_q_0_x_0 = refl;
+  ad_1_q_1_x_0 = refl;
+  ad_1_q_0_x_1 = refl;
+  ad_1_q_1_x_1 = refl;
+}
+
+pub single_ignore_write_16 : SingleIgnoreWrite16
+unfolding opened
+single_ignore_write_16 = record {
+  ad_0_q_0_x_0 = refl;
+  ad_0_q_1_x_0 = refl;
+  ad_0_q_0_x_1 = refl;
+  ad_0_q_1_x_1 = refl;
+  ad_1_q_0_x_0 = refl;
+  ad_1_q_1_x_0 = refl;
+  ad_1_q_0_x_1 = refl;
+  ad_1_q_1_x_1 = refl;
+}
+
+pub single_ignore_write_24 : SingleIgnoreWrite24
+unfolding opened
+single_ignore_write_24 = record {
+  ad_0_q_0_x_0 = refl;
+  ad_0_q_1_x_0 = refl;
+  ad_0_q_0_x_1 = refl;
+  ad_0_q_1_x_1 = refl;
+  ad_1_q_0_x_0 = refl;
+  ad_1_q_1_x_0 = refl;
+  ad_1_q_0_x_1 = refl;
+  ad_1_q_1_x_1 = refl;
+}
+
+pub single_ignore_control : SingleIgnoreControl
+unfolding opened
+single_ignore_control = record {
+  ad_0_q_0_x_0 = refl;
+  ad_0_q_1_x_0 = refl;
+  ad_0_q_0_x_1 = refl;
+  ad_0_q_1_x_1 = refl;
+  ad_1_q_0_x_0 = refl;
+  ad_1_q_1_x_0 = refl;
+  ad_1_q_0_x_1 = refl;
+  ad_1_q_1_x_1 = refl;
+}
+
+pub single_repeat_read_16 : SingleRepeatRead16
+unfolding opened
+single_repeat_read_16 = record {
+  ad_0_q_0_x_0 = refl;
+  last_try_ad_0_q_0_x_0 = refl;
+  ad_0_q_1_x_0 = refl;
+  ad_0_q_0_x_1 = refl;
+  last_try_ad_0_q_0_x_1 = refl;
+  ad_0_q_1_x_1 = refl;
+  ad_1_q_0_x_0 = refl;
+  last_try_ad_1_q_0_x_0 = refl;
+  ad_1_q_1_x_0 = refl;
+  ad_1_q_0_x_1 = refl;
+  last_try_ad_1_q_0_x_1 = refl;
+  ad_1_q_1_x_1 = refl;
+}
+
+pub single_repeat_read_24 : SingleRepeatRead24
+unfolding opened
+single_repeat_read_24 = record {
+  ad_0_q_0_x_0 = refl;
+  last_try_ad_0_q_0_x_0 = refl;
+  ad_0_q_1_x_0 = refl;
+  ad_0_q_0_x_1 = refl;
+  last_try_ad_0_q_0_x_1 = refl;
+  ad_0_q_1_x_1 = refl;
+  ad_1_q_0_x_0 = refl;
+  last_try_ad_1_q_0_x_0 = refl;
+  ad_1_q_1_x_0 = refl;
+  ad_1_q_0_x_1 = refl;
+  last_try_ad_1_q_0_x_1 = refl;
+  ad_1_q_1_x_1 = refl;
+}
+
+pub single_repeat_write_16 : SingleRepeatWrite16
+unfolding opened
+single_repeat_write_16 = record {
+  ad_0_q_0_x_0 = refl;
+  last_try_ad_0_q_0_x_0 = refl;
+  ad_0_q_1_x_0 = refl;
+  ad_0_q_0_x_1 = refl;
+  last_try_ad_0_q_0_x_1 = refl;
+  ad_0_q_1_x_1 = refl;
+  ad_1_q_0_x_0 = refl;
+  last_try_ad_1_q_0_x_0 = refl;
+  ad_1_q_1_x_0 = refl;
+  ad_1_q_0_x_1 = refl;
+  last_try_ad_1_q_0_x_1 = refl;
+  ad_1_q_1_x_1 = refl;
+}
+
+pub single_repeat_write_24 : SingleRepeatWrite24
+unfolding opened
+single_repeat_write_24 = record {
+  ad_0_q_0_x_0 = refl;
+  last_try_ad_0_q_0_x_0 = refl;
+  ad_0_q_1_x_0 = refl;
+  ad_0_q_0_x_1 = refl;
+  last_try_ad_0_q_0_x_1 = refl;
+  ad_0_q_1_x_1 = refl;
+  ad_1_q_0_x_0 = refl;
+  last_try_ad_1_q_0_x_0 = refl;
+  ad_1_q_1_x_0 = refl;
+  ad_1_q_0_x_1 = refl;
+  last_try_ad_1_q_0_x_1 = refl;
+  ad_1_q_1_x_1 = refl;
+}
+
+pub single_repeat_control : SingleRepeatControl
+unfolding opened
+single_repeat_control = record {
+  ad_0_q_0_x_0 = refl;
+  last_try_ad_0_q_0_x_0 = refl;
+  ad_0_q_1_x_0 = refl;
+  ad_0_q_0_x_1 = refl;
+  last_try_ad_0_q_0_x_1 = refl;
+  ad_0_q_1_x_1 = refl;
+  ad_1_q_0_x_0 = refl;
+  last_try_ad_1_q_0_x_0 = refl;
+  ad_1_q_1_x_0 = refl;
+  ad_1_q_0_x_1 = refl;
+  last_try_ad_1_q_0_x_1 = refl;
+  ad_1_q_1_x_1 = refl;
+}
+
+pub single_scan_read_16 : SingleScanRead16
+unfolding opened
+single_scan_read_16 = record {
+  ad_0_q_0_x_0 = refl;
+  ad_0_q_1_x_0 = refl;
+  ad_0_q_0_x_1 = refl;
+  ad_0_q_1_x_1 = refl;
+  ad_1_q_0_x_0 = refl;
+  ad_1_q_1_x_0 = refl;
+  ad_1_q_0_x_1 = refl;
+  ad_1_q_1_x_1 = refl;
+}
+
+pub single_scan_read_24 : SingleScanRead24
+unfolding opened
+single_scan_read_24 = record {
+  ad_0_q_0_x_0 = refl;
+  ad_0_q_1_x_0 = refl;
+  ad_0_q_0_x_1 = refl;
+  ad_0_q_1_x_1 = refl;
+  ad_1_q_0_x_0 = refl;
+  ad_1_q_1_x_0 = refl;
+  ad_1_q_0_x_1 = refl;
+  ad_1_q_1_x_1 = refl;
+}
+
+pub single_scan_write_16 : SingleScanWrite16
+unfolding opened
+single_scan_write_16 = record {
+  ad_0_q_0_x_0 = refl;
+  ad_0_q_1_x_0 = refl;
+  ad_0_q_0_x_1 = refl;
+  ad_0_q_1_x_1 = refl;
+  ad_1_q_0_x_0 = refl;
+  ad_1_q_1_x_0 = refl;
+  ad_1_q_0_x_1 = refl;
+  ad_1_q_1_x_1 = refl;
+}
+
+pub single_scan_write_24 : SingleScanWrite24
+unfolding opened
+single_scan_write_24 = record {
+  ad_0_q_0_x_0 = refl;
+  ad_0_q_1_x_0 = refl;
+  ad_0_q_0_x_1 = refl;
+  ad_0_q_1_x_1 = refl;
+  ad_1_q_0_x_0 = refl;
+  ad_1_q_1_x_0 = refl;
+  ad_1_q_0_x_1 = refl;
+  ad_1_q_1_x_1 = refl;
+}
+
+pub single_scan_control : SingleScanControl
+unfolding opened
+single_scan_control = record {
+  ad_0_q_0_x_0 = refl;
+  ad_0_q_1_x_0 = refl;
+  ad_0_q_0_x_1 = refl;
+  ad_0_q_1_x_1 = refl;
+  ad_1_q_0_x_0 = refl;
+  ad_1_q_1_x_0 = refl;
+  ad_1_q_0_x_1 = refl;
+  ad_1_q_1_x_1 = refl;
+}
+
+pub block_stop_read_16 : BlockStopRead16
+unfolding opened
+block_stop_read_16 = record {
+  ad_0_q_0_x_0 = refl;
+  ad_0_q_1_x_0 = refl;
+  ad_0_q_0_x_1 = refl;
+  last_word_ad_0_q_0_x_1 = refl;
+  ad_0_q_1_x_1 = refl;
+  last_word_ad_0_q_1_x_1 = refl;
+  ad_1_q_0_x_0 = refl;
+  ad_1_q_1_x_0 = refl;
+  ad_1_q_0_x_1 = refl;
+  ad_1_q_1_x_1 = refl;
+}
+
+pub block_stop_read_24 : BlockStopRead24
+unfolding opened
+block_stop_read_24 = record {
+  ad_0_q_0_x_0 = refl;
+  ad_0_q_1_x_0 = refl;
+  ad_0_q_0_x_1 = refl;
+  last_word_ad_0_q_0_x_1 = refl;
+  ad_0_q_1_x_1 = refl;
+  last_word_ad_0_q_1_x_1 = refl;
+  ad_1_q_0_x_0 = refl;
+  ad_1_q_1_x_0 = refl;
+  ad_1_q_0_x_1 = refl;
+  ad_1_q_1_x_1 = refl;
+}
+
+pub block_stop_write_16 : BlockStopWrite16
+unfolding opened
+block_stop_write_16 = record {
+  ad_0_q_0_x_0 = refl;
+  ad_0_q_1_x_0 = refl;
+  ad_0_q_0_x_1 = refl;
+  last_word_ad_0_q_0_x_1 = refl;
+  ad_0_q_1_x_1 = refl;
+  last_word_ad_0_q_1_x_1 = refl;
+  ad_1_q_0_x_0 = refl;
+  ad_1_q_1_x_0 = refl;
+  ad_1_q_0_x_1 = refl;
+  ad_1_q_1_x_1 = refl;
+}
+
+pub block_stop_write_24 : BlockStopWrite24
+unfolding opened
+block_stop_write_24 = record {
+  ad_0_q_0_x_0 = refl;
+  ad_0_q_1_x_0 = refl;
+  ad_0_q_0_x_1 = refl;
+  last_word_ad_0_q_0_x_1 = refl;
+  ad_0_q_1_x_1 = refl;
+  last_word_ad_0_q_1_x_1 = refl;
+  ad_1_q_0_x_0 = refl;
+  ad_1_q_1_x_0 = refl;
+  ad_1_q_0_x_1 = refl;
+  ad_1_q_1_x_1 = refl;
+}
+
+pub block_ignore_read_16 : BlockIgnoreRead16
+unfolding opened
+block_ignore_read_16 = record {
+  ad_0_q_0_x_0 = refl;
+  ad_0_q_1_x_0 = refl;
+  ad_0_q_0_x_1 = refl;
+  last_word_ad_0_q_0_x_1 = refl;
+  ad_0_q_1_x_1 = refl;
+  last_word_ad_0_q_1_x_1 = refl;
+  ad_1_q_0_x_0 = refl;
+  ad_1_q_1_x_0 = refl;
+  ad_1_q_0_x_1 = refl;
+  ad_1_q_1_x_1 = refl;
+}
+
+pub block_ignore_read_24 : BlockIgnoreRead24
+unfolding opened
+block_ignore_read_24 = record {
+  ad_0_q_0_x_0 = refl;
+  ad_0_q_1_x_0 = refl;
+  ad_0_q_0_x_1 = refl;
+  last_word_ad_0_q_0_x_1 = refl;
+  ad_0_q_1_x_1 = refl;
+  last_word_ad_0_q_1_x_1 = refl;
+  ad_1_q_0_x_0 = refl;
+  ad_1_q_1_x_0 = refl;
+  ad_1_q_0_x_1 = refl;
+  ad_1_q_1_x_1 = refl;
+}
+
+pub block_ignore_write_16 : BlockIgnoreWrite16
+unfolding opened
+block_ignore_write_16 = record {
+  ad_0_q_0_x_0 = refl;
+  ad_0_q_1_x_0 = refl;
+  ad_0_q_0_x_1 = refl;
+  last_word_ad_0_q_0_x_1 = refl;
+  ad_0_q_1_x_1 = refl;
+  last_word_ad_0_q_1_x_1 = refl;
+  ad_1_q_0_x_0 = refl;
+  ad_1_q_1_x_0 = refl;
+  ad_1_q_0_x_1 = refl;
+  ad_1_q_1_x_1 = refl;
+}
+
+pub block_ignore_write_24 : BlockIgnoreWrite24
+unfolding opened
+block_ignore_write_24 = record {
+  ad_0_q_0_x_0 = refl;
+  ad_0_q_1_x_0 = refl;
+  ad_0_q_0_x_1 = refl;
+  last_word_ad_0_q_0_x_1 = refl;
+  ad_0_q_1_x_1 = refl;
+  last_word_ad_0_q_1_x_1 = refl;
+  ad_1_q_0_x_0 = refl;
+  ad_1_q_1_x_0 = refl;
+  ad_1_q_0_x_1 = refl;
+  ad_1_q_1_x_1 = refl;
+}
+
+pub block_repeat_read_16 : BlockRepeatRead16
+unfolding opened
+block_repeat_read_16 = record {
+  ad_0_q_0_x_0 = refl;
+  last_try_ad_0_q_0_x_0 = refl;
+  ad_0_q_1_x_0 = refl;
+  ad_0_q_0_x_1 = refl;
+  last_try_ad_0_q_0_x_1 = refl;
+  last_word_ad_0_q_0_x_1 = refl;
+  ad_0_q_1_x_1 = refl;
+  last_word_ad_0_q_1_x_1 = refl;
+  ad_1_q_0_x_0 = refl;
+  last_try_ad_1_q_0_x_0 = refl;
+  ad_1_q_1_x_0 = refl;
+  ad_1_q_0_x_1 = refl;
+  last_try_ad_1_q_0_x_1 = refl;
+  ad_1_q_1_x_1 = refl;
+}
+
+pub block_repeat_read_24 : BlockRepeatRead24
+unfolding opened
+block_repeat_read_24 = record {
+  ad_0_q_0_x_0 = refl;
+  last_try_ad_0_q_0_x_0 = refl;
+  ad_0_q_1_x_0 = refl;
+  ad_0_q_0_x_1 = refl;
+  last_try_ad_0_q_0_x_1 = refl;
+  last_word_ad_0_q_0_x_1 = refl;
+  ad_0_q_1_x_1 = refl;
+  last_word_ad_0_q_1_x_1 = refl;
+  ad_1_q_0_x_0 = refl;
+  last_try_ad_1_q_0_x_0 = refl;
+  ad_1_q_1_x_0 = refl;
+  ad_1_q_0_x_1 = refl;
+  last_try_ad_1_q_0_x_1 = refl;
+  ad_1_q_1_x_1 = refl;
+}
+
+pub block_repeat_write_16 : BlockRepeatWrite16
+unfolding opened
+block_repeat_write_16 = record {
+  ad_0_q_0_x_0 = refl;
+  last_try_ad_0_q_0_x_0 = refl;
+  ad_0_q_1_x_0 = refl;
+  ad_0_q_0_x_1 = refl;
+  last_try_ad_0_q_0_x_1 = refl;
+  last_word_ad_0_q_0_x_1 = refl;
+  ad_0_q_1_x_1 = refl;
+  last_word_ad_0_q_1_x_1 = refl;
+  ad_1_q_0_x_0 = refl;
+  last_try_ad_1_q_0_x_0 = refl;
+  ad_1_q_1_x_0 = refl;
+  ad_1_q_0_x_1 = refl;
+  last_try_ad_1_q_0_x_1 = refl;
+  ad_1_q_1_x_1 = refl;
+}
+
+pub block_repeat_write_24 : BlockRepeatWrite24
+unfolding opened
+block_repeat_write_24 = record {
+  ad_0_q_0_x_0 = refl;
+  last_try_ad_0_q_0_x_0 = refl;
+  ad_0_q_1_x_0 = refl;
+  ad_0_q_0_x_1 = refl;
+  last_try_ad_0_q_0_x_1 = refl;
+  last_word_ad_0_q_0_x_1 = refl;
+  ad_0_q_1_x_1 = refl;
+  last_word_ad_0_q_1_x_1 = refl;
+  ad_1_q_0_x_0 = refl;
+  last_try_ad_1_q_0_x_0 = refl;
+  ad_1_q_1_x_0 = refl;
+  ad_1_q_0_x_1 = refl;
+  last_try_ad_1_q_0_x_1 = refl;
+  ad_1_q_1_x_1 = refl;
+}
+
+pub block_scan_read_16 : BlockScanRead16
+unfolding opened
+block_scan_read_16 = record {
+  ad_0_q_0_x_0 = refl;
+  ad_0_q_1_x_0 = refl;
+  ad_0_q_0_x_1 = refl;
+  last_word_ad_0_q_0_x_1 = refl;
+  ad_0_q_1_x_1 = refl;
+  last_word_ad_0_q_1_x_1 = refl;
+  ad_1_q_0_x_0 = refl;
+  ad_1_q_1_x_0 = refl;
+  ad_1_q_0_x_1 = refl;
+  ad_1_q_1_x_1 = refl;
+}
+
+pub block_scan_read_24 : BlockScanRead24
+unfolding opened
+block_scan_read_24 = record {
+  ad_0_q_0_x_0 = refl;
+  ad_0_q_1_x_0 = refl;
+  ad_0_q_0_x_1 = refl;
+  last_word_ad_0_q_0_x_1 = refl;
+  ad_0_q_1_x_1 = refl;
+  last_word_ad_0_q_1_x_1 = refl;
+  ad_1_q_0_x_0 = refl;
+  ad_1_q_1_x_0 = refl;
+  ad_1_q_0_x_1 = refl;
+  ad_1_q_1_x_1 = refl;
+}
+
+pub block_scan_write_16 : BlockScanWrite16
+unfolding opened
+block_scan_write_16 = record {
+  ad_0_q_0_x_0 = refl;
+  ad_0_q_1_x_0 = refl;
+  ad_0_q_0_x_1 = refl;
+  last_word_ad_0_q_0_x_1 = refl;
+  ad_0_q_1_x_1 = refl;
+  last_word_ad_0_q_1_x_1 = refl;
+  ad_1_q_0_x_0 = refl;
+  ad_1_q_1_x_0 = refl;
+  ad_1_q_0_x_1 = refl;
+  ad_1_q_1_x_1 = refl;
+}
+
+pub block_scan_write_24 : BlockScanWrite24
+unfolding opened
+block_scan_write_24 = record {
+  ad_0_q_0_x_0 = refl;
+  ad_0_q_1_x_0 = refl;
+  ad_0_q_0_x_1 = refl;
+  last_word_ad_0_q_0_x_1 = refl;
+  ad_0_q_1_x_1 = refl;
+  last_word_ad_0_q_1_x_1 = refl;
+  ad_1_q_0_x_0 = refl;
+  ad_1_q_1_x_0 = refl;
+  ad_1_q_0_x_1 = refl;
+  ad_1_q_1_x_1 = refl;
+}
+
+pub enhanced_stop_read_16 : EnhancedStopRead16
+unfolding opened
+enhanced_stop_read_16 = record {
+  ad_0_q_0_x_0 = refl;
+  ad_0_q_1_x_0 = refl;
+  ad_0_q_0_x_1 = refl;
+  last_word_ad_0_q_0_x_1 = refl;
+  ad_0_q_1_x_1 = refl;
+  last_word_ad_0_q_1_x_1 = refl;
+  ad_1_q_0_x_0 = refl;
+  ad_1_q_1_x_0 = refl;
+  ad_1_q_0_x_1 = refl;
+  ad_1_q_1_x_1 = refl;
+}
+
+pub enhanced_stop_read_24 : EnhancedStopRead24
+unfolding opened
+enhanced_stop_read_24 = record {
+  ad_0_q_0_x_0 = refl;
+  ad_0_q_1_x_0 = refl;
+  ad_0_q_0_x_1 = refl;
+  last_word_ad_0_q_0_x_1 = refl;
+  ad_0_q_1_x_1 = refl;
+  last_word_ad_0_q_1_x_1 = refl;
+  ad_1_q_0_x_0 = refl;
+  ad_1_q_1_x_0 = refl;
+  ad_1_q_0_x_1 = refl;
+  ad_1_q_1_x_1 = refl;
+}
+
+pub enhanced_stop_write_16 : EnhancedStopWrite16
+unfolding opened
+enhanced_stop_write_16 = record {
+  ad_0_q_0_x_0 = refl;
+  ad_0_q_1_x_0 = refl;
+  ad_0_q_0_x_1 = refl;
+  last_word_ad_0_q_0_x_1 = refl;
+  ad_0_q_1_x_1 = refl;
+  last_word_ad_0_q_1_x_1 = refl;
+  ad_1_q_0_x_0 = refl;
+  ad_1_q_1_x_0 = refl;
+  ad_1_q_0_x_1 = refl;
+  ad_1_q_1_x_1 = refl;
+}
+
+pub enhanced_stop_write_24 : EnhancedStopWrite24
+unfolding opened
+enhanced_stop_write_24 = record {
+  ad_0_q_0_x_0 = refl;
+  ad_0_q_1_x_0 = refl;
+  ad_0_q_0_x_1 = refl;
+  last_word_ad_0_q_0_x_1 = refl;
+  ad_0_q_1_x_1 = refl;
+  last_word_ad_0_q_1_x_1 = refl;
+  ad_1_q_0_x_0 = refl;
+  ad_1_q_1_x_0 = refl;
+  ad_1_q_0_x_1 = refl;
+  ad_1_q_1_x_1 = refl;
+}
+
+pub enhanced_ignore_read_16 : EnhancedIgnoreRead16
+unfolding opened
+enhanced_ignore_read_16 = record {
+  ad_0_q_0_x_0 = refl;
+  ad_0_q_1_x_0 = refl;
+  ad_0_q_0_x_1 = refl;
+  last_word_ad_0_q_0_x_1 = refl;
+  ad_0_q_1_x_1 = refl;
+  last_word_ad_0_q_1_x_1 = refl;
+  ad_1_q_0_x_0 = refl;
+  ad_1_q_1_x_0 = refl;
+  ad_1_q_0_x_1 = refl;
+  ad_1_q_1_x_1 = refl;
+}
+
+pub enhanced_ignore_read_24 : EnhancedIgnoreRead24
+unfolding opened
+enhanced_ignore_read_24 = record {
+  ad_0_q_0_x_0 = refl;
+  ad_0_q_1_x_0 = refl;
+  ad_0_q_0_x_1 = refl;
+  last_word_ad_0_q_0_x_1 = refl;
+  ad_0_q_1_x_1 = refl;
+  last_word_ad_0_q_1_x_1 = refl;
+  ad_1_q_0_x_0 = refl;
+  ad_1_q_1_x_0 = refl;
+  ad_1_q_0_x_1 = refl;
+  ad_1_q_1_x_1 = refl;
+}
+
+pub enhanced_ignore_write_16 : EnhancedIgnoreWrite16
+unfolding opened
+enhanced_ignore_write_16 = record {
+  ad_0_q_0_x_0 = refl;
+  ad_0_q_1_x_0 = refl;
+  ad_0_q_0_x_1 = refl;
+  last_word_ad_0_q_0_x_1 = refl;
+  ad_0_q_1_x_1 = refl;
+  last_word_ad_0_q_1_x_1 = refl;
+  ad_1_q_0_x_0 = refl;
+  ad_1_q_1_x_0 = refl;
+  ad_1_q_0_x_1 = refl;
+  ad_1_q_1_x_1 = refl;
+}
+
+pub enhanced_ignore_write_24 : EnhancedIgnoreWrite24
+unfolding opened
+enhanced_ignore_write_24 = record {
+  ad_0_q_0_x_0 = refl;
+  ad_0_q_1_x_0 = refl;
+  ad_0_q_0_x_1 = refl;
+  last_word_ad_0_q_0_x_1 = refl;
+  ad_0_q_1_x_1 = refl;
+  last_word_ad_0_q_1_x_1 = refl;
+  ad_1_q_0_x_0 = refl;
+  ad_1_q_1_x_0 = refl;
+  ad_1_q_0_x_1 = refl;
+  ad_1_q_1_x_1 = refl;
+}
+
+pub enhanced_repeat_read_16 : EnhancedRepeatRead16
+unfolding opened
+enhanced_repeat_read_16 = record {
+  ad_0_q_0_x_0 = refl;
+  last_try_ad_0_q_0_x_0 = refl;
+  ad_0_q_1_x_0 = refl;
+  ad_0_q_0_x_1 = refl;
+  last_try_ad_0_q_0_x_1 = refl;
+  last_word_ad_0_q_0_x_1 = refl;
+  ad_0_q_1_x_1 = refl;
+  last_word_ad_0_q_1_x_1 = refl;
+  ad_1_q_0_x_0 = refl;
+  last_try_ad_1_q_0_x_0 = refl;
+  ad_1_q_1_x_0 = refl;
+  ad_1_q_0_x_1 = refl;
+  last_try_ad_1_q_0_x_1 = refl;
+  ad_1_q_1_x_1 = refl;
+}
+
+pub enhanced_repeat_read_24 : EnhancedRepeatRead24
+unfolding opened
+enhanced_repeat_read_24 = record {
+  ad_0_q_0_x_0 = refl;
+  last_try_ad_0_q_0_x_0 = refl;
+  ad_0_q_1_x_0 = refl;
+  ad_0_q_0_x_1 = refl;
+  last_try_ad_0_q_0_x_1 = refl;
+  last_word_ad_0_q_0_x_1 = refl;
+  ad_0_q_1_x_1 = refl;
+  last_word_ad_0_q_1_x_1 = refl;
+  ad_1_q_0_x_0 = refl;
+  last_try_ad_1_q_0_x_0 = refl;
+  ad_1_q_1_x_0 = refl;
+  ad_1_q_0_x_1 = refl;
+  last_try_ad_1_q_0_x_1 = refl;
+  ad_1_q_1_x_1 = refl;
+}
+
+pub sequencer_read_16 : SequencerRead16
+unfolding opened
+sequencer_read_16 = record {
+  ad_0_q_0_x_0 = refl;
+  ad_0_q_1_x_0 = refl;
+  ad_0_q_0_x_1 = refl;
+  last_word_ad_0_q_0_x_1 = refl;
+  ad_0_q_1_x_1 = refl;
+  last_word_ad_0_q_1_x_1 = refl;
+  ad_1_q_0_x_0 = refl;
+  ad_1_q_1_x_0 = refl;
+  ad_1_q_0_x_1 = refl;
+  ad_1_q_1_x_1 = refl;
+}
+
+pub sequencer_read_24 : SequencerRead24
+unfolding opened
+sequencer_read_24 = record {
+  ad_0_q_0_x_0 = refl;
+  ad_0_q_1_x_0 = refl;
+  ad_0_q_0_x_1 = refl;
+  last_word_ad_0_q_0_x_1 = refl;
+  ad_0_q_1_x_1 = refl;
+  last_word_ad_0_q_1_x_1 = refl;
+  ad_1_q_0_x_0 = refl;
+  ad_1_q_1_x_0 = refl;
+  ad_1_q_0_x_1 = refl;
+  ad_1_q_1_x_1 = refl;
+}
+
+pub sequencer_write_16 : SequencerWrite16
+unfolding opened
+sequencer_write_16 = record {
+  ad_0_q_0_x_0 = refl;
+  ad_0_q_1_x_0 = refl;
+  ad_0_q_0_x_1 = refl;
+  last_word_ad_0_q_0_x_1 = refl;
+  ad_0_q_1_x_1 = refl;
+  last_word_ad_0_q_1_x_1 = refl;
+  ad_1_q_0_x_0 = refl;
+  ad_1_q_1_x_0 = refl;
+  ad_1_q_0_x_1 = refl;
+  ad_1_q_1_x_1 = refl;
+}
+
+pub sequencer_write_24 : SequencerWrite24
+unfolding opened
+sequencer_write_24 = record {
+  ad_0_q_0_x_0 = refl;
+  ad_0_q_1_x_0 = refl;
+  ad_0_q_0_x_1 = refl;
+  last_word_ad_0_q_0_x_1 = refl;
+  ad_0_q_1_x_1 = refl;
+  last_word_ad_0_q_1_x_1 = refl;
+  ad_1_q_0_x_0 = refl;
+  ad_1_q_1_x_0 = refl;
+  ad_1_q_0_x_1 = refl;
+  ad_1_q_1_x_1 = refl;
+}
+
+pub inline_stop_16 : InlineStop16
+unfolding opened
+inline_stop_16 = record {
+  ad_0_q_0_x_0 = refl;
+  ad_0_q_1_x_0 = refl;
+  ad_0_q_0_x_1 = refl;
+  ad_0_q_1_x_1 = refl;
+  ad_1_q_0_x_0 = refl;
+  ad_1_q_1_x_0 = refl;
+  ad_1_q_0_x_1 = refl;
+  ad_1_q_1_x_1 = refl;
+}
+
+pub inline_stop_24 : InlineStop24
+unfolding opened
+inline_stop_24 = record {
+  ad_0_q_0_x_0 = refl;
+  ad_0_q_1_x_0 = refl;
+  ad_0_q_0_x_1 = refl;
+  ad_0_q_1_x_1 = refl;
+  ad_1_q_0_x_0 = refl;
+  ad_1_q_1_x_0 = refl;
+  ad_1_q_0_x_1 = refl;
+  ad_1_q_1_x_1 = refl;
+}
+
+pub inline_ignore_16 : InlineIgnore16
+unfolding opened
+inline_ignore_16 = record {
+  ad_0_q_0_x_0 = refl;
+  ad_0_q_1_x_0 = refl;
+  ad_0_q_0_x_1 = refl;
+  ad_0_q_1_x_1 = refl;
+  ad_1_q_0_x_0 = refl;
+  ad_1_q_1_x_0 = refl;
+  ad_1_q_0_x_1 = refl;
+  ad_1_q_1_x_1 = refl;
+}
+
+pub inline_ignore_24 : InlineIgnore24
+unfolding opened
+inline_ignore_24 = record {
+  ad_0_q_0_x_0 = refl;
+  ad_0_q_1_x_0 = refl;
+  ad_0_q_0_x_1 = refl;
+  ad_0_q_1_x_1 = refl;
+  ad_1_q_0_x_0 = refl;
+  ad_1_q_1_x_0 = refl;
+  ad_1_q_0_x_1 = refl;
+  ad_1_q_1_x_1 = refl;
+}
+
+pub inline_repeat_16 : InlineRepeat16
+unfolding opened
+inline_repeat_16 = record {
+  ad_0_q_0_x_0 = refl;
+  last_try_ad_0_q_0_x_0 = refl;
+  ad_0_q_1_x_0 = refl;
+  ad_0_q_0_x_1 = refl;
+  last_try_ad_0_q_0_x_1 = refl;
+  ad_0_q_1_x_1 = refl;
+  ad_1_q_0_x_0 = refl;
+  last_try_ad_1_q_0_x_0 = refl;
+  ad_1_q_1_x_0 = refl;
+  ad_1_q_0_x_1 = refl;
+  last_try_ad_1_q_0_x_1 = refl;
+  ad_1_q_1_x_1 = refl;
+}
+
+pub inline_repeat_24 : InlineRepeat24
+unfolding opened
+inline_repeat_24 = record {
+  ad_0_q_0_x_0 = refl;
+  last_try_ad_0_q_0_x_0 = refl;
+  ad_0_q_1_x_0 = refl;
+  ad_0_q_0_x_1 = refl;
+  last_try_ad_0_q_0_x_1 = refl;
+  ad_0_q_1_x_1 = refl;
+  ad_1_q_0_x_0 = refl;
+  last_try_ad_1_q_0_x_0 = refl;
+  ad_1_q_1_x_0 = refl;
+  ad_1_q_0_x_1 = refl;
+  last_try_ad_1_q_0_x_1 = refl;
+  ad_1_q_1_x_1 = refl;
+}
+
+pub inline_scan_16 : InlineScan16
+unfolding opened
+inline_scan_16 = record {
+  ad_0_q_0_x_0 = refl;
+  ad_0_q_1_x_0 = refl;
+  ad_0_q_0_x_1 = refl;
+  ad_0_q_1_x_1 = refl;
+  ad_1_q_0_x_0 = refl;
+  ad_1_q_1_x_0 = refl;
+  ad_1_q_0_x_1 = refl;
+  ad_1_q_1_x_1 = refl;
+}
+
+pub inline_scan_24 : InlineScan24
+unfolding opened
+inline_scan_24 = record {
+  ad_0_q_0_x_0 = refl;
+  ad_0_q_1_x_0 = refl;
+  ad_0_q_0_x_1 = refl;
+  ad_0_q_1_x_1 = refl;
+  ad_1_q_0_x_0 = refl;
+  ad_1_q_1_x_0 = refl;
+  ad_1_q_0_x_1 = refl;
+  ad_1_q_1_x_1 = refl;
+}
+
+pub block_scan_read_24_places : BlockScanRead24Places
+unfolding opened
+block_scan_read_24_places = record {
+  at_22_15_left_2_ad_0_q_0_x_0 = refl;
+  at_22_15_left_2_ad_0_q_1_x_0 = refl;
+  at_22_15_left_2_ad_0_q_0_x_1 = refl;
+  at_22_15_left_2_ad_0_q_1_x_1 = refl;
+  at_22_15_left_1_ad_0_q_0_x_0 = refl;
+  at_22_15_left_1_ad_0_q_1_x_0 = refl;
+  at_22_15_left_1_ad_0_q_0_x_1 = refl;
+  at_22_15_left_1_ad_0_q_1_x_1 = refl;
+  at_23_3_left_2_ad_0_q_0_x_0 = refl;
+  at_23_3_left_2_ad_0_q_1_x_0 = refl;
+  at_23_3_left_2_ad_0_q_0_x_1 = refl;
+  at_23_3_left_2_ad_0_q_1_x_1 = refl;
+  at_23_3_left_1_ad_0_q_0_x_0 = refl;
+  at_23_3_left_1_ad_0_q_1_x_0 = refl;
+  at_23_3_left_1_ad_0_q_0_x_1 = refl;
+  at_23_3_left_1_ad_0_q_1_x_1 = refl;
+  at_23_15_left_2_ad_0_q_0_x_0 = refl;
+  at_23_15_left_2_ad_0_q_1_x_0 = refl;
+  at_23_15_left_2_ad_0_q_0_x_1 = refl;
+  at_23_15_left_2_ad_0_q_1_x_1 = refl;
+  at_23_15_left_1_ad_0_q_0_x_0 = refl;
+  at_23_15_left_1_ad_0_q_1_x_0 = refl;
+  at_23_15_left_1_ad_0_q_0_x_1 = refl;
+  at_23_15_left_1_ad_0_q_1_x_1 = refl;
+  at_22_15_left_2_ad_1_q_0_x_0 = refl;
+  at_22_15_left_2_ad_1_q_1_x_0 = refl;
+  at_22_15_left_2_ad_1_q_0_x_1 = refl;
+  at_22_15_left_2_ad_1_q_1_x_1 = refl;
+  at_22_15_left_1_ad_1_q_0_x_0 = refl;
+  at_22_15_left_1_ad_1_q_1_x_0 = refl;
+  at_22_15_left_1_ad_1_q_0_x_1 = refl;
+  at_22_15_left_1_ad_1_q_1_x_1 = refl;
+  at_23_3_left_2_ad_1_q_0_x_0 = refl;
+  at_23_3_left_2_ad_1_q_1_x_0 = refl;
+  at_23_3_left_2_ad_1_q_0_x_1 = refl;
+  at_23_3_left_2_ad_1_q_1_x_1 = refl;
+  at_23_3_left_1_ad_1_q_0_x_0 = refl;
+  at_23_3_left_1_ad_1_q_1_x_0 = refl;
+  at_23_3_left_1_ad_1_q_0_x_1 = refl;
+  at_23_3_left_1_ad_1_q_1_x_1 = refl;
+  at_23_15_left_2_ad_1_q_0_x_0 = refl;
+  at_23_15_left_2_ad_1_q_1_x_0 = refl;
+  at_23_15_left_2_ad_1_q_0_x_1 = refl;
+  at_23_15_left_2_ad_1_q_1_x_1 = refl;
+  at_23_15_left_1_ad_1_q_0_x_0 = refl;
+  at_23_15_left_1_ad_1_q_1_x_0 = refl;
+  at_23_15_left_1_ad_1_q_0_x_1 = refl;
+  at_23_15_left_1_ad_1_q_1_x_1 = refl;
+}
+
+pub block_scan_write_16_places : BlockScanWrite16Places
+unfolding opened
+block_scan_write_16_places = record {
+  at_22_15_left_2_ad_0_q_0_x_0 = refl;
+  at_22_15_left_2_ad_0_q_1_x_0 = refl;
+  at_22_15_left_2_ad_0_q_0_x_1 = refl;
+  at_22_15_left_2_ad_0_q_1_x_1 = refl;
+  at_22_15_left_1_ad_0_q_0_x_0 = refl;
+  at_22_15_left_1_ad_0_q_1_x_0 = refl;
+  at_22_15_left_1_ad_0_q_0_x_1 = refl;
+  at_22_15_left_1_ad_0_q_1_x_1 = refl;
+  at_23_3_left_2_ad_0_q_0_x_0 = refl;
+  at_23_3_left_2_ad_0_q_1_x_0 = refl;
+  at_23_3_left_2_ad_0_q_0_x_1 = refl;
+  at_23_3_left_2_ad_0_q_1_x_1 = refl;
+  at_23_3_left_1_ad_0_q_0_x_0 = refl;
+  at_23_3_left_1_ad_0_q_1_x_0 = refl;
+  at_23_3_left_1_ad_0_q_0_x_1 = refl;
+  at_23_3_left_1_ad_0_q_1_x_1 = refl;
+  at_23_15_left_2_ad_0_q_0_x_0 = refl;
+  at_23_15_left_2_ad_0_q_1_x_0 = refl;
+  at_23_15_left_2_ad_0_q_0_x_1 = refl;
+  at_23_15_left_2_ad_0_q_1_x_1 = refl;
+  at_23_15_left_1_ad_0_q_0_x_0 = refl;
+  at_23_15_left_1_ad_0_q_1_x_0 = refl;
+  at_23_15_left_1_ad_0_q_0_x_1 = refl;
+  at_23_15_left_1_ad_0_q_1_x_1 = refl;
+}
+
+pub single_scan_read_24_places : SingleScanRead24Places
+unfolding opened
+single_scan_read_24_places = record {
+  at_22_15_left_1_ad_0_q_0_x_0 = refl;
+  at_22_15_left_1_ad_0_q_1_x_0 = refl;
+  at_22_15_left_1_ad_0_q_0_x_1 = refl;
+  at_22_15_left_1_ad_0_q_1_x_1 = refl;
+  at_23_3_left_1_ad_0_q_0_x_0 = refl;
+  at_23_3_left_1_ad_0_q_1_x_0 = refl;
+  at_23_3_left_1_ad_0_q_0_x_1 = refl;
+  at_23_3_left_1_ad_0_q_1_x_1 = refl;
+  at_23_15_left_1_ad_0_q_0_x_0 = refl;
+  at_23_15_left_1_ad_0_q_1_x_0 = refl;
+  at_23_15_left_1_ad_0_q_0_x_1 = refl;
+  at_23_15_left_1_ad_0_q_1_x_1 = refl;
+}
+
+pub inline_scan_24_places : InlineScan24Places
+unfolding opened
+inline_scan_24_places = record {
+  at_22_15_left_1_ad_0_q_0_x_0 = refl;
+  at_22_15_left_1_ad_0_q_1_x_0 = refl;
+  at_22_15_left_1_ad_0_q_0_x_1 = refl;
+  at_22_15_left_1_ad_0_q_1_x_1 = refl;
+  at_23_3_left_1_ad_0_q_0_x_0 = refl;
+  at_23_3_left_1_ad_0_q_1_x_0 = refl;
+  at_23_3_left_1_ad_0_q_0_x_1 = refl;
+  at_23_3_left_1_ad_0_q_1_x_1 = refl;
+  at_23_15_left_1_ad_0_q_0_x_0 = refl;
+  at_23_15_left_1_ad_0_q_1_x_0 = refl;
+  at_23_15_left_1_ad_0_q_0_x_1 = refl;
+  at_23_15_left_1_ad_0_q_1_x_1 = refl;
+}
+
+pub single_stop_read_24_other : SingleStopRead24Other
+unfolding opened
+single_stop_read_24_other = record {
+  ad_0_err = refl;
+  ad_0_err_x_0 = refl;
+  ad_0_err_q_0 = refl;
+  ad_0_derr = refl;
+  ad_0_tpe = refl;
+  ad_0_lpe = refl;
+  ad_0_kind_1 = refl;
+  ad_0_kind_2 = refl;
+  ad_0_kind_3 = refl;
+  ad_1_err = refl;
+  ad_1_err_x_0 = refl;
+  ad_1_err_q_0 = refl;
+  ad_1_derr = refl;
+  ad_1_tpe = refl;
+  ad_1_lpe = refl;
+  ad_1_kind_1 = refl;
+  ad_1_kind_2 = refl;
+  ad_1_kind_3 = refl;
+}
+
+pub single_ignore_read_24_other : SingleIgnoreRead24Other
+unfolding opened
+single_ignore_read_24_other = record {
+  ad_0_err = refl;
+  ad_0_err_x_0 = refl;
+  ad_0_err_q_0 = refl;
+  ad_0_derr = refl;
+  ad_0_tpe = refl;
+  ad_0_lpe = refl;
+  ad_0_kind_1 = refl;
+  ad_0_kind_2 = refl;
+  ad_0_kind_3 = refl;
+  ad_1_err = refl;
+  ad_1_err_x_0 = refl;
+  ad_1_err_q_0 = refl;
+  ad_1_derr = refl;
+  ad_1_tpe = refl;
+  ad_1_lpe = refl;
+  ad_1_kind_1 = refl;
+  ad_1_kind_2 = refl;
+  ad_1_kind_3 = refl;
+}
+
+pub single_repeat_read_24_other : SingleRepeatRead24Other
+unfolding opened
+single_repeat_read_24_other = record {
+  ad_0_err = refl;
+  ad_0_err_x_0 = refl;
+  ad_0_err_q_0 = refl;
+  ad_0_derr = refl;
+  ad_0_tpe = refl;
+  ad_0_lpe = refl;
+  ad_0_kind_1 = refl;
+  ad_0_kind_2 = refl;
+  ad_0_kind_3 = refl;
+  ad_1_err = refl;
+  ad_1_err_x_0 = refl;
+  ad_1_err_q_0 = refl;
+  ad_1_derr = refl;
+  ad_1_tpe = refl;
+  ad_1_lpe = refl;
+  ad_1_kind_1 = refl;
+  ad_1_kind_2 = refl;
+  ad_1_kind_3 = refl;
+}
+
+pub single_scan_read_24_other : SingleScanRead24Other
+unfolding opened
+single_scan_read_24_other = record {
+  ad_0_err = refl;
+  ad_0_err_x_0 = refl;
+  ad_0_err_q_0 = refl;
+  ad_0_derr = refl;
+  ad_0_tpe = refl;
+  ad_0_lpe = refl;
+  ad_0_kind_1 = refl;
+  ad_0_kind_2 = refl;
+  ad_0_kind_3 = refl;
+  ad_1_err = refl;
+  ad_1_err_x_0 = refl;
+  ad_1_err_q_0 = refl;
+  ad_1_derr = refl;
+  ad_1_tpe = refl;
+  ad_1_lpe = refl;
+  ad_1_kind_1 = refl;
+  ad_1_kind_2 = refl;
+  ad_1_kind_3 = refl;
+}
+
+pub block_stop_read_24_other : BlockStopRead24Other
+unfolding opened
+block_stop_read_24_other = record {
+  ad_0_err = refl;
+  ad_0_err_x_0 = refl;
+  ad_0_err_q_0 = refl;
+  ad_0_derr = refl;
+  ad_0_tpe = refl;
+  ad_0_lpe = refl;
+  ad_0_kind_1 = refl;
+  ad_0_kind_2 = refl;
+  ad_0_kind_3 = refl;
+  ad_1_err = refl;
+  ad_1_err_x_0 = refl;
+  ad_1_err_q_0 = refl;
+  ad_1_derr = refl;
+  ad_1_tpe = refl;
+  ad_1_lpe = refl;
+  ad_1_kind_1 = refl;
+  ad_1_kind_2 = refl;
+  ad_1_kind_3 = refl;
+}
+
+pub block_ignore_read_24_other : BlockIgnoreRead24Other
+unfolding opened
+block_ignore_read_24_other = record {
+  ad_0_err = refl;
+  ad_0_err_x_0 = refl;
+  ad_0_err_q_0 = refl;
+  ad_0_derr = refl;
+  ad_0_tpe = refl;
+  ad_0_lpe = refl;
+  ad_0_kind_1 = refl;
+  ad_0_kind_2 = refl;
+  ad_0_kind_3 = refl;
+  ad_1_err = refl;
+  ad_1_err_x_0 = refl;
+  ad_1_err_q_0 = refl;
+  ad_1_derr = refl;
+  ad_1_tpe = refl;
+  ad_1_lpe = refl;
+  ad_1_kind_1 = refl;
+  ad_1_kind_2 = refl;
+  ad_1_kind_3 = refl;
+}
+
+pub block_repeat_read_24_other : BlockRepeatRead24Other
+unfolding opened
+block_repeat_read_24_other = record {
+  ad_0_err = refl;
+  ad_0_err_x_0 = refl;
+  ad_0_err_q_0 = refl;
+  ad_0_derr = refl;
+  ad_0_tpe = refl;
+  ad_0_lpe = refl;
+  ad_0_kind_1 = refl;
+  ad_0_kind_2 = refl;
+  ad_0_kind_3 = refl;
+  ad_1_err = refl;
+  ad_1_err_x_0 = refl;
+  ad_1_err_q_0 = refl;
+  ad_1_derr = refl;
+  ad_1_tpe = refl;
+  ad_1_lpe = refl;
+  ad_1_kind_1 = refl;
+  ad_1_kind_2 = refl;
+  ad_1_kind_3 = refl;
+}
+
+pub block_scan_read_24_other : BlockScanRead24Other
+unfolding opened
+block_scan_read_24_other = record {
+  ad_0_err = refl;
+  ad_0_err_x_0 = refl;
+  ad_0_err_q_0 = refl;
+  ad_0_derr = refl;
+  ad_0_tpe = refl;
+  ad_0_lpe = refl;
+  ad_0_kind_1 = refl;
+  ad_0_kind_2 = refl;
+  ad_0_kind_3 = refl;
+  ad_1_err = refl;
+  ad_1_err_x_0 = refl;
+  ad_1_err_q_0 = refl;
+  ad_1_derr = refl;
+  ad_1_tpe = refl;
+  ad_1_lpe = refl;
+  ad_1_kind_1 = refl;
+  ad_1_kind_2 = refl;
+  ad_1_kind_3 = refl;
+}
+
+pub enhanced_stop_read_24_other : EnhancedStopRead24Other
+unfolding opened
+enhanced_stop_read_24_other = record {
+  ad_0_err = refl;
+  ad_0_err_x_0 = refl;
+  ad_0_err_q_0 = refl;
+  ad_0_derr = refl;
+  ad_0_tpe = refl;
+  ad_0_lpe = refl;
+  ad_0_kind_1 = refl;
+  ad_0_kind_2 = refl;
+  ad_0_kind_3 = refl;
+  ad_1_err = refl;
+  ad_1_err_x_0 = refl;
+  ad_1_err_q_0 = refl;
+  ad_1_derr = refl;
+  ad_1_tpe = refl;
+  ad_1_lpe = refl;
+  ad_1_kind_1 = refl;
+  ad_1_kind_2 = refl;
+  ad_1_kind_3 = refl;
+}
+
+pub enhanced_ignore_read_24_other : EnhancedIgnoreRead24Other
+unfolding opened
+enhanced_ignore_read_24_other = record {
+  ad_0_err = refl;
+  ad_0_err_x_0 = refl;
+  ad_0_err_q_0 = refl;
+  ad_0_derr = refl;
+  ad_0_tpe = refl;
+  ad_0_lpe = refl;
+  ad_0_kind_1 = refl;
+  ad_0_kind_2 = refl;
+  ad_0_kind_3 = refl;
+  ad_1_err = refl;
+  ad_1_err_x_0 = refl;
+  ad_1_err_q_0 = refl;
+  ad_1_derr = refl;
+  ad_1_tpe = refl;
+  ad_1_lpe = refl;
+  ad_1_kind_1 = refl;
+  ad_1_kind_2 = refl;
+  ad_1_kind_3 = refl;
+}
+
+pub enhanced_repeat_read_24_other : EnhancedRepeatRead24Other
+unfolding opened
+enhanced_repeat_read_24_other = record {
+  ad_0_err = refl;
+  ad_0_err_x_0 = refl;
+  ad_0_err_q_0 = refl;
+  ad_0_derr = refl;
+  ad_0_tpe = refl;
+  ad_0_lpe = refl;
+  ad_0_kind_1 = refl;
+  ad_0_kind_2 = refl;
+  ad_0_kind_3 = refl;
+  ad_1_err = refl;
+  ad_1_err_x_0 = refl;
+  ad_1_err_q_0 = refl;
+  ad_1_derr = refl;
+  ad_1_tpe = refl;
+  ad_1_lpe = refl;
+  ad_1_kind_1 = refl;
+  ad_1_kind_2 = refl;
+  ad_1_kind_3 = refl;
+}
+
+pub sequencer_read_24_other : SequencerRead24Other
+unfolding opened
+sequencer_read_24_other = record {
+  ad_0_err = refl;
+  ad_0_err_x_0 = refl;
+  ad_0_err_q_0 = refl;
+  ad_0_derr = refl;
+  ad_0_tpe = refl;
+  ad_0_lpe = refl;
+  ad_0_kind_1 = refl;
+  ad_0_kind_2 = refl;
+  ad_0_kind_3 = refl;
+  ad_1_err = refl;
+  ad_1_err_x_0 = refl;
+  ad_1_err_q_0 = refl;
+  ad_1_derr = refl;
+  ad_1_tpe = refl;
+  ad_1_lpe = refl;
+  ad_1_kind_1 = refl;
+  ad_1_kind_2 = refl;
+  ad_1_kind_3 = refl;
+}
+
+pub inline_stop_24_other : InlineStop24Other
+unfolding opened
+inline_stop_24_other = record {
+  ad_0_err = refl;
+  ad_0_err_x_0 = refl;
+  ad_0_err_q_0 = refl;
+  ad_0_derr = refl;
+  ad_0_tpe = refl;
+  ad_0_lpe = refl;
+  ad_0_kind_1 = refl;
+  ad_0_kind_2 = refl;
+  ad_0_kind_3 = refl;
+  ad_1_err = refl;
+  ad_1_err_x_0 = refl;
+  ad_1_err_q_0 = refl;
+  ad_1_derr = refl;
+  ad_1_tpe = refl;
+  ad_1_lpe = refl;
+  ad_1_kind_1 = refl;
+  ad_1_kind_2 = refl;
+  ad_1_kind_3 = refl;
+}
+
+pub inline_ignore_24_other : InlineIgnore24Other
+unfolding opened
+inline_ignore_24_other = record {
+  ad_0_err = refl;
+  ad_0_err_x_0 = refl;
+  ad_0_err_q_0 = refl;
+  ad_0_derr = refl;
+  ad_0_tpe = refl;
+  ad_0_lpe = refl;
+  ad_0_kind_1 = refl;
+  ad_0_kind_2 = refl;
+  ad_0_kind_3 = refl;
+  ad_1_err = refl;
+  ad_1_err_x_0 = refl;
+  ad_1_err_q_0 = refl;
+  ad_1_derr = refl;
+  ad_1_tpe = refl;
+  ad_1_lpe = refl;
+  ad_1_kind_1 = refl;
+  ad_1_kind_2 = refl;
+  ad_1_kind_3 = refl;
+}
+
+pub inline_repeat_24_other : InlineRepeat24Other
+unfolding opened
+inline_repeat_24_other = record {
+  ad_0_err = refl;
+  ad_0_err_x_0 = refl;
+  ad_0_err_q_0 = refl;
+  ad_0_derr = refl;
+  ad_0_tpe = refl;
+  ad_0_lpe = refl;
+  ad_0_kind_1 = refl;
+  ad_0_kind_2 = refl;
+  ad_0_kind_3 = refl;
+  ad_1_err = refl;
+  ad_1_err_x_0 = refl;
+  ad_1_err_q_0 = refl;
+  ad_1_derr = refl;
+  ad_1_tpe = refl;
+  ad_1_lpe = refl;
+  ad_1_kind_1 = refl;
+  ad_1_kind_2 = refl;
+  ad_1_kind_3 = refl;
+}
+
+pub inline_scan_24_other : InlineScan24Other
+unfolding opened
+inline_scan_24_other = record {
+  ad_0_err = refl;
+  ad_0_err_x_0 = refl;
+  ad_0_err_q_0 = refl;
+  ad_0_derr = refl;
+  ad_0_tpe = refl;
+  ad_0_lpe = refl;
+  ad_0_kind_1 = refl;
+  ad_0_kind_2 = refl;
+  ad_0_kind_3 = refl;
+  ad_1_err = refl;
+  ad_1_err_x_0 = refl;
+  ad_1_err_q_0 = refl;
+  ad_1_derr = refl;
+  ad_1_tpe = refl;
+  ad_1_lpe = refl;
+  ad_1_kind_1 = refl;
+  ad_1_kind_2 = refl;
+  ad_1_kind_3 = refl;
+}
+
+pub causes_in_a_stop_single : CausesInAStopSingle
+unfolding opened
+causes_in_a_stop_single = record {
+  ad_0_none = refl;
+  ad_0_q = refl;
+  ad_0_x = refl;
+  ad_0_q_x = refl;
+  ad_0_err = refl;
+  ad_0_q_err = refl;
+  ad_0_x_err = refl;
+  ad_0_q_x_err = refl;
+  ad_0_lpe = refl;
+  ad_0_q_lpe = refl;
+  ad_0_x_lpe = refl;
+  ad_0_q_x_lpe = refl;
+  ad_0_err_lpe = refl;
+  ad_0_q_err_lpe = refl;
+  ad_0_x_err_lpe = refl;
+  ad_0_q_x_err_lpe = refl;
+  ad_1_none = refl;
+  ad_1_q = refl;
+  ad_1_x = refl;
+  ad_1_q_x = refl;
+  ad_1_err = refl;
+  ad_1_q_err = refl;
+  ad_1_x_err = refl;
+  ad_1_q_x_err = refl;
+  ad_1_lpe = refl;
+  ad_1_q_lpe = refl;
+  ad_1_x_lpe = refl;
+  ad_1_q_x_lpe = refl;
+  ad_1_err_lpe = refl;
+  ad_1_q_err_lpe = refl;
+  ad_1_x_err_lpe = refl;
+  ad_1_q_x_err_lpe = refl;
+}
+
+pub causes_in_a_stop_block : CausesInAStopBlock
+unfolding opened
+causes_in_a_stop_block = record {
+  ad_0_none = refl;
+  ad_0_q = refl;
+  ad_0_x = refl;
+  ad_0_q_x = refl;
+  ad_0_err = refl;
+  ad_0_q_err = refl;
+  ad_0_x_err = refl;
+  ad_0_q_x_err = refl;
+  ad_0_lpe = refl;
+  ad_0_q_lpe = refl;
+  ad_0_x_lpe = refl;
+  ad_0_q_x_lpe = refl;
+  ad_0_err_lpe = refl;
+  ad_0_q_err_lpe = refl;
+  ad_0_x_err_lpe = refl;
+  ad_0_q_x_err_lpe = refl;
+  ad_1_none = refl;
+  ad_1_q = refl;
+  ad_1_x = refl;
+  ad_1_q_x = refl;
+  ad_1_err = refl;
+  ad_1_q_err = refl;
+  ad_1_x_err = refl;
+  ad_1_q_x_err = refl;
+  ad_1_lpe = refl;
+  ad_1_q_lpe = refl;
+  ad_1_x_lpe = refl;
+  ad_1_q_x_lpe = refl;
+  ad_1_err_lpe = refl;
+  ad_1_q_err_lpe = refl;
+  ad_1_x_err_lpe = refl;
+  ad_1_q_x_err_lpe = refl;
+}
+
+pub causes_on_a_last_try : CausesOnALastTry
+unfolding opened
+causes_on_a_last_try = record {
+  ad_0_none = refl;
+  ad_0_q = refl;
+  ad_0_x = refl;
+  ad_0_q_x = refl;
+  ad_0_err = refl;
+  ad_0_q_err = refl;
+  ad_0_x_err = refl;
+  ad_0_q_x_err = refl;
+  ad_0_lpe = refl;
+  ad_0_q_lpe = refl;
+  ad_0_x_lpe = refl;
+  ad_0_q_x_lpe = refl;
+  ad_0_err_lpe = refl;
+  ad_0_q_err_lpe = refl;
+  ad_0_x_err_lpe = refl;
+  ad_0_q_x_err_lpe = refl;
+  ad_1_none = refl;
+  ad_1_q = refl;
+  ad_1_x = refl;
+  ad_1_q_x = refl;
+  ad_1_err = refl;
+  ad_1_q_err = refl;
+  ad_1_x_err = refl;
+  ad_1_q_x_err = refl;
+  ad_1_lpe = refl;
+  ad_1_q_lpe = refl;
+  ad_1_x_lpe = refl;
+  ad_1_q_x_lpe = refl;
+  ad_1_err_lpe = refl;
+  ad_1_q_err_lpe = refl;
+  ad_1_x_err_lpe = refl;
+  ad_1_q_x_err_lpe = refl;
+}
+
+pub causes_at_a_last_position : CausesAtALastPosition
+unfolding opened
+causes_at_a_last_position = record {
+  ad_0_none = refl;
+  ad_0_q = refl;
+  ad_0_x = refl;
+  ad_0_q_x = refl;
+  ad_0_err = refl;
+  ad_0_q_err = refl;
+  ad_0_x_err = refl;
+  ad_0_q_x_err = refl;
+  ad_0_lpe = refl;
+  ad_0_q_lpe = refl;
+  ad_0_x_lpe = refl;
+  ad_0_q_x_lpe = refl;
+  ad_0_err_lpe = refl;
+  ad_0_q_err_lpe = refl;
+  ad_0_x_err_lpe = refl;
+  ad_0_q_x_err_lpe = refl;
+  ad_1_none = refl;
+  ad_1_q = refl;
+  ad_1_x = refl;
+  ad_1_q_x = refl;
+  ad_1_err = refl;
+  ad_1_q_err = refl;
+  ad_1_x_err = refl;
+  ad_1_q_x_err = refl;
+  ad_1_lpe = refl;
+  ad_1_q_lpe = refl;
+  ad_1_x_lpe = refl;
+  ad_1_q_x_lpe = refl;
+  ad_1_err_lpe = refl;
+  ad_1_q_err_lpe = refl;
+  ad_1_x_err_lpe = refl;
+  ad_1_q_x_err_lpe = refl;
 }

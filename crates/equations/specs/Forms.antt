@@ -1,6 +1,6 @@
 -- How this crate's equations are written: bytes, fields, replies, records and answers. The fields beside those here are worst_count/specs/Cases'.
 use Rattle.std.specs.Prelude.{ℕ, zero, suc, ◌/◌, ◌%◌, ◌^◌, Bool, true, false, List, [], ◌∷◌, ◌++◌}
-use Rattle.base.specs.Refusals.{notRefused}
+use Rattle.base.specs.Refusals.{not_refused}
 use Rattle.packing.specs.Packing.{bytes_of}
 use Rattle.listfile.specs.Fields.{Field, Fields, faulty}
 use Rattle.listfile.specs.declared.field.Instruction.TheVariants.{Halt}
@@ -9,7 +9,7 @@ use Rattle.walk.specs.declared.Admission.TheVariants.{Refused, Admitted}
 use Rattle.reply.specs.Effect.{State}
 use Rattle.reply.specs.declared.records.Note.{Note}
 use Rattle.reply.specs.declared.records.Record.{Record}
-use Rattle.calls.specs.Calls.{Called, RunThrough, Part, noOperation}
+use Rattle.calls.specs.Calls.{Called, RunThrough, Part, no_operation}
 use Rattle.calls.specs.declared.operations.Operation.{Operation}
 
 -- Bytes ------------------------------------------------------------------------------------------------------------------
@@ -20,11 +20,11 @@ hex zero v = []
 hex (suc n) v = v / 256 ^ n % 256 ∷ hex n v
 
 -- CAMAC fields of length 4 and of length 8
-abbrev pub camac-4 : ℕ → List ℕ
-camac-4 first = 0x10 ∷ 4 ∷ 0 ∷ bytes_of true first
+abbrev pub camac_4 : ℕ → List ℕ
+camac_4 first = 0x10 ∷ 4 ∷ 0 ∷ bytes_of true first
 
-abbrev pub camac-8 : ℕ → ℕ → List ℕ
-camac-8 first second = 0x10 ∷ 8 ∷ 0 ∷ bytes_of true first ++ bytes_of true second
+abbrev pub camac_8 : ℕ → ℕ → List ℕ
+camac_8 first second = 0x10 ∷ 8 ∷ 0 ∷ bytes_of true first ++ bytes_of true second
 
 -- Replies ----------------------------------------------------------------------------------------------------------------
 
@@ -59,8 +59,8 @@ kind k = k ∷ 0 ∷ 0 ∷ 0 ∷ 0 ∷ 0 ∷ 0 ∷ 0 ∷ []
 
 -- a record by its numbers, in document 01's order: "ended, instruction, words left, tries made, current N and A, both marks, operations,
 -- status, note of the last move"
-abbrev pub recordOf : Bool → ℕ → ℕ → ℕ → ℕ → ℕ → ℕ → ℕ → ℕ → ℕ → ℕ → ℕ → ℕ → Record
-recordOf isEnded instruction left tries n a incoming outgoing operations status buffer offset size = record {
+abbrev pub record_of : Bool → ℕ → ℕ → ℕ → ℕ → ℕ → ℕ → ℕ → ℕ → ℕ → ℕ → ℕ → ℕ → Record
+record_of isEnded instruction left tries n a incoming outgoing operations status buffer offset size = record {
   ended = isEnded;
   spot = record { instruction = instruction };
   left = left;
@@ -73,10 +73,10 @@ recordOf isEnded instruction left tries n a incoming outgoing operations status 
 }
 
 abbrev pub waiting : ℕ → ℕ → ℕ → ℕ → ℕ → ℕ → ℕ → ℕ → ℕ → ℕ → ℕ → ℕ → Record
-waiting = recordOf false
+waiting = record_of false
 
 abbrev pub ended : ℕ → ℕ → ℕ → ℕ → ℕ → ℕ → ℕ → ℕ → ℕ → ℕ → ℕ → ℕ → Record
-ended = recordOf true
+ended = record_of true
 
 abbrev pub note : ℕ → ℕ → ℕ → Note
 note buffer offset size = record { buffer = buffer; offset = offset; size = size }
@@ -91,32 +91,32 @@ abbrev pub refused : ℕ → ℕ → Admission
 refused number place = Refused (record { number = number; place = place })
 
 -- fields that were read: a halt at a place; a refusal
-abbrev pub haltAt : ℕ → Field
-haltAt place = record { place = place; instruction = Halt }
+abbrev pub halt_at : ℕ → Field
+halt_at place = record { place = place; instruction = Halt }
 
-abbrev pub refusedAt : ℕ → ℕ → Fields
-refusedAt number place = faulty (record { number = number; place = place })
+abbrev pub refused_at : ℕ → ℕ → Fields
+refused_at number place = faulty (record { number = number; place = place })
 
 -- the operation wanted next: crate, N, A, F, data, whether it is enhanced
 abbrev pub operation : ℕ → ℕ → ℕ → ℕ → ℕ → Bool → Operation
-operation c n a f word isEnhanced = record {
+operation c n a f word is_enhanced = record {
   crate_number = c;
   station = n;
   subaddress = a;
   function = f;
   word = word;
-  enhanced = isEnhanced;
+  enhanced = is_enhanced;
 }
 
 -- start's and step's: not refused, with an operation wanted or with none; refused
 abbrev pub wants : Operation → State → Called
-wants o s = record { refusal = notRefused; wanted = o; state = s }
+wants o s = record { refusal = not_refused; wanted = o; state = s }
 
-abbrev pub wantsNone : State → Called
-wantsNone s = wants noOperation s
+abbrev pub wants_none : State → Called
+wants_none s = wants no_operation s
 
-abbrev pub refusedWith : ℕ → ℕ → State → Called
-refusedWith number place s = record { refusal = record { number = number; place = place }; wanted = noOperation; state = s }
+abbrev pub refused_with : ℕ → ℕ → State → Called
+refused_with number place s = record { refusal = record { number = number; place = place }; wanted = no_operation; state = s }
 
 -- the whole run's: number and place of its refusal, the replies taken
 abbrev pub ran : ℕ → ℕ → ℕ → State → RunThrough

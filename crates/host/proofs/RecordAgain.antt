@@ -7,14 +7,14 @@ use mathlib.Core.Option.{some}
 use borrow.Author.Tests.{le-leb}
 use lib.Dec.{eqb}
 use Rattle.reply.specs.declared.records.Record.{Record}
-use Rattle.calls.specs.Calls.{number_of, recordNumbers}
-use Rattle.host.specs.Numbers.{recordIn}
+use Rattle.calls.specs.Calls.{number_of, record_numbers}
+use Rattle.host.specs.Numbers.{record_in}
 
-ended-again : (b : Bool) → not (eqb (number_of b) 0) ≡ b
-ended-again true = refl
-ended-again false = refl
+ended_again : (b : Bool) → not (eqb (number_of b) 0) ≡ b
+ended_again true = refl
+ended_again false = refl
 
-pub record-again : (r : Record) → r.position.station ≤ 255 → r.position.subaddress ≤ 255 → r.status ≤ 4294967295 → r.note.buffer ≤ 255
-    → recordIn (recordNumbers r) ≡ some r
-record-again r n a status buffer =
-    rw (le-leb _ _ n, le-leb _ _ a, le-leb _ _ status, le-leb _ _ buffer, ended-again r.ended)
+pub record_again : (r : Record) → r.position.station ≤ 255 → r.position.subaddress ≤ 255 → r.status ≤ 4294967295 → r.note.buffer ≤ 255
+    → record_in (record_numbers r) ≡ some r
+record_again r n a status buffer =
+    rw (le-leb _ _ n, le-leb _ _ a, le-leb _ _ status, le-leb _ _ buffer, ended_again r.ended)

@@ -1,8 +1,8 @@
 // The entry points: admission, start, step, several replies and the whole run.
 ghost use Rattle.std.specs.Prelude.{◌≡◌};
-ghost use Rattle.calls.specs.Calls.{run_of, ranOf};
-ghost use Rattle.walk.specs.Admission.{admitOf, numbersOf};
-ghost use Rattle.host.specs.Numbers.{runNumbers, startByNumbers, stepByNumbers, stepsByNumbers};
+ghost use Rattle.calls.specs.Calls.{run_of, ran_of};
+ghost use Rattle.walk.specs.Admission.{admit_of, numbers_of};
+ghost use Rattle.host.specs.Numbers.{run_numbers, start_by_numbers, step_by_numbers, steps_by_numbers};
 
 use crate::numbers::{
     admission_numbers, call_numbers, numbers_after, record_numbers, record_of, run_numbers,
@@ -16,7 +16,7 @@ pub extern "C" fn camlist_admit_v2(
     outgoing_len: u64,
     answer: &mut [u64; 5],
 )
-    ensures { answer.new ≡ numbersOf (admitOf list.now incoming_len outgoing_len) }
+    ensures { answer.new ≡ numbers_of (admit_of list.now incoming_len outgoing_len) }
 {
     *answer = admission_numbers(walk::admit(list, incoming_len as usize, outgoing_len as usize));
 }
@@ -29,7 +29,7 @@ pub extern "C" fn camlist_run_v2(
     replies: &[u8],
     answer: &mut [u64; 16],
 )
-    ensures answer { answer.new ≡ runNumbers (ranOf (run_of list.now incoming.old outgoing.now replies.now)) }
+    ensures answer { answer.new ≡ run_numbers (ran_of (run_of list.now incoming.old outgoing.now replies.now)) }
     ensures incoming { incoming.new ≡ (run_of list.now incoming.old outgoing.now replies.now).state.incoming }
     ensures outgoing { outgoing.now ≡ (run_of list.now incoming.old outgoing.now replies.now).state.outgoing }
 {
@@ -44,10 +44,10 @@ pub extern "C" fn camlist_start_v2(
     record: &mut [u64; 13],
     answer: &mut [u64; 8],
 )
-    ensures answer { answer.new ≡ (startByNumbers list.now incoming.old outgoing.now).answer }
-    ensures record { «record».new ≡ (startByNumbers list.now incoming.old outgoing.now).run }
-    ensures incoming { incoming.new ≡ (startByNumbers list.now incoming.old outgoing.now).incoming }
-    ensures outgoing { outgoing.now ≡ (startByNumbers list.now incoming.old outgoing.now).outgoing }
+    ensures answer { answer.new ≡ (start_by_numbers list.now incoming.old outgoing.now).answer }
+    ensures record { «record».new ≡ (start_by_numbers list.now incoming.old outgoing.now).run }
+    ensures incoming { incoming.new ≡ (start_by_numbers list.now incoming.old outgoing.now).incoming }
+    ensures outgoing { outgoing.now ≡ (start_by_numbers list.now incoming.old outgoing.now).outgoing }
 {
     let y = step::start(list, incoming, outgoing);
     *record = record_numbers(y.run);
@@ -63,10 +63,10 @@ pub extern "C" fn camlist_step_v2(
     reply: &[u8],
     answer: &mut [u64; 8],
 )
-    ensures answer { answer.new ≡ (stepByNumbers list.now «record».old incoming.old outgoing.now reply.now).answer }
-    ensures record { «record».new ≡ (stepByNumbers list.now «record».old incoming.old outgoing.now reply.now).run }
-    ensures incoming { incoming.new ≡ (stepByNumbers list.now «record».old incoming.old outgoing.now reply.now).incoming }
-    ensures outgoing { outgoing.now ≡ (stepByNumbers list.now «record».old incoming.old outgoing.now reply.now).outgoing }
+    ensures answer { answer.new ≡ (step_by_numbers list.now «record».old incoming.old outgoing.now reply.now).answer }
+    ensures record { «record».new ≡ (step_by_numbers list.now «record».old incoming.old outgoing.now reply.now).run }
+    ensures incoming { incoming.new ≡ (step_by_numbers list.now «record».old incoming.old outgoing.now reply.now).incoming }
+    ensures outgoing { outgoing.now ≡ (step_by_numbers list.now «record».old incoming.old outgoing.now reply.now).outgoing }
 {
     let given = *record;
     let y = step::step(list, record_of(given), incoming, outgoing, reply);
@@ -83,10 +83,10 @@ pub extern "C" fn camlist_steps_v2(
     replies: &[u8],
     answer: &mut [u64; 9],
 )
-    ensures answer { answer.new ≡ (stepsByNumbers list.now «record».old incoming.old outgoing.now replies.now).answer }
-    ensures record { «record».new ≡ (stepsByNumbers list.now «record».old incoming.old outgoing.now replies.now).run }
-    ensures incoming { incoming.new ≡ (stepsByNumbers list.now «record».old incoming.old outgoing.now replies.now).incoming }
-    ensures outgoing { outgoing.now ≡ (stepsByNumbers list.now «record».old incoming.old outgoing.now replies.now).outgoing }
+    ensures answer { answer.new ≡ (steps_by_numbers list.now «record».old incoming.old outgoing.now replies.now).answer }
+    ensures record { «record».new ≡ (steps_by_numbers list.now «record».old incoming.old outgoing.now replies.now).run }
+    ensures incoming { incoming.new ≡ (steps_by_numbers list.now «record».old incoming.old outgoing.now replies.now).incoming }
+    ensures outgoing { outgoing.now ≡ (steps_by_numbers list.now «record».old incoming.old outgoing.now replies.now).outgoing }
 {
     let given = *record;
     let y = whole_run::steps(list, record_of(given), incoming, outgoing, replies);

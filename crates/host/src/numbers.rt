@@ -1,9 +1,9 @@
 // Answers and records as rows of numbers.
 ghost use Rattle.std.specs.Prelude.{◌≡◌};
-ghost use Rattle.calls.specs.Calls.{number_of, recordNumbers};
-ghost use Rattle.walk.specs.Admission.{numbersOf};
-ghost use Rattle.host.specs.Numbers.{refusalNumbers, queuedNumbers, takenNumbers, runNumbers, callNumbers, stepsNumbers, is_narrow};
-ghost use Rattle.host.specs.model.Given.{recordOr, numbersAfter};
+ghost use Rattle.calls.specs.Calls.{number_of, record_numbers};
+ghost use Rattle.walk.specs.Admission.{numbers_of};
+ghost use Rattle.host.specs.Numbers.{refusal_numbers, queued_numbers, taken_numbers, run_numbers, call_numbers, steps_numbers, is_narrow};
+ghost use Rattle.host.specs.model.Given.{record_or, numbers_after};
 
 use base::Refusal;
 use calls::{Operation, Ran};
@@ -14,13 +14,13 @@ use reply::{Note, Record};
 use walk::{Admission, Spot};
 
 pub fn refusal_numbers(r: Refusal) -> [u64; 2]
-    ensures { result ≡ refusalNumbers r }
+    ensures { result ≡ refusal_numbers r }
 {
     [r.number as u64, r.place as u64]
 }
 
 pub fn queued_numbers(r: Queued) -> [u64; 4]
-    ensures { result ≡ queuedNumbers r }
+    ensures { result ≡ queued_numbers r }
 {
     let refusal = r.refusal;
     [
@@ -32,7 +32,7 @@ pub fn queued_numbers(r: Queued) -> [u64; 4]
 }
 
 pub fn taken_numbers(t: Taken) -> [u64; 7]
-    ensures { result ≡ takenNumbers t.queued t.next }
+    ensures { result ≡ taken_numbers t.queued t.next }
 {
     let n = queued_numbers(t.queued);
     let next = t.next;
@@ -51,7 +51,7 @@ pub fn taken_numbers(t: Taken) -> [u64; 7]
 }
 
 pub fn admission_numbers(a: Admission) -> [u64; 5]
-    ensures { result ≡ numbersOf a }
+    ensures { result ≡ numbers_of a }
 {
     match a {
         Admission::Refused(r) => [r.number as u64, r.place as u64, 0, 0, 0],
@@ -66,7 +66,7 @@ fn number_of(b: bool) -> u64
 }
 
 pub fn record_numbers(run: Record) -> [u64; 13]
-    ensures { result ≡ recordNumbers run }
+    ensures { result ≡ record_numbers run }
 {
     let spot = run.spot;
     let position = run.position;
@@ -90,7 +90,7 @@ pub fn record_numbers(run: Record) -> [u64; 13]
 }
 
 pub fn run_numbers(r: Ran) -> [u64; 16]
-    ensures { result ≡ runNumbers r }
+    ensures { result ≡ run_numbers r }
 {
     let refusal = r.refusal;
     let run = r.run;
@@ -116,7 +116,7 @@ pub fn run_numbers(r: Ran) -> [u64; 16]
 }
 
 pub fn call_numbers(refusal: Refusal, wanted: Operation) -> [u64; 8]
-    ensures { result ≡ callNumbers refusal wanted }
+    ensures { result ≡ call_numbers refusal wanted }
 {
     [
         refusal.number as u64,
@@ -131,7 +131,7 @@ pub fn call_numbers(refusal: Refusal, wanted: Operation) -> [u64; 8]
 }
 
 pub fn steps_numbers(refusal: Refusal, taken: usize, wanted: Operation) -> [u64; 9]
-    ensures { result ≡ stepsNumbers refusal taken wanted }
+    ensures { result ≡ steps_numbers refusal taken wanted }
 {
     [
         refusal.number as u64,
@@ -155,7 +155,7 @@ pub fn is_narrow(n: [u64; 13]) -> bool
 
 // The record of these numbers; one that fits no list where a number is too wide.
 pub fn record_of(n: [u64; 13]) -> Record
-    ensures { result ≡ recordOr n }
+    ensures { result ≡ record_or n }
 {
     let ended = n[0] != 0;
     if !is_narrow(n) {
@@ -188,7 +188,7 @@ pub fn record_of(n: [u64; 13]) -> Record
 
 // A record's numbers after a call: those given where it was refused.
 pub fn numbers_after(given: [u64; 13], refusal: Refusal, run: Record) -> [u64; 13]
-    ensures { result ≡ numbersAfter given refusal run }
+    ensures { result ≡ numbers_after given refusal run }
 {
     if is_narrow(given) & (refusal.number == 0) {
         return record_numbers(run);

@@ -1,7 +1,7 @@
 // The entry points of demands. The queue is lent, and each call answers how many wait in it.
 ghost use Rattle.std.specs.Prelude.{◌≡◌};
-ghost use Rattle.demands.specs.Demands.{demandOf, addOf, row_of, take_of, clearOf};
-ghost use Rattle.host.specs.Numbers.{queuedNumbers, takenNumbers};
+ghost use Rattle.demands.specs.Demands.{demand_of, add_of, row_of, take_of, clear_of};
+ghost use Rattle.host.specs.Numbers.{queued_numbers, taken_numbers};
 
 use crate::numbers::{queued_numbers, taken_numbers};
 use demands::Demand;
@@ -13,8 +13,8 @@ pub extern "C" fn camlist_demand_add_v2(
     sgl: u8,
     answer: &mut [u64; 4],
 )
-    ensures answer { answer.new ≡ queuedNumbers (addOf queue.old (demandOf crate_number sgl)).queued }
-    ensures queue { queue.new ≡ (addOf queue.old (demandOf crate_number sgl)).queue }
+    ensures answer { answer.new ≡ queued_numbers (add_of queue.old (demand_of crate_number sgl)).queued }
+    ensures queue { queue.new ≡ (add_of queue.old (demand_of crate_number sgl)).queue }
 {
     let demand = Demand {
         crate_number: crate_number,
@@ -25,7 +25,7 @@ pub extern "C" fn camlist_demand_add_v2(
 
 #[unsafe(no_mangle)]
 pub extern "C" fn camlist_demand_row_v2(queue: &mut [u8], row: &[u8], answer: &mut [u64; 4])
-    ensures answer { answer.new ≡ queuedNumbers (row_of queue.old row.now).queued }
+    ensures answer { answer.new ≡ queued_numbers (row_of queue.old row.now).queued }
     ensures queue { queue.new ≡ (row_of queue.old row.now).queue }
 {
     *answer = queued_numbers(demands::add_row(queue, row));
@@ -33,7 +33,7 @@ pub extern "C" fn camlist_demand_row_v2(queue: &mut [u8], row: &[u8], answer: &m
 
 #[unsafe(no_mangle)]
 pub extern "C" fn camlist_demand_take_v2(queue: &mut [u8], answer: &mut [u64; 7])
-    ensures answer { answer.new ≡ takenNumbers (take_of queue.old).queued (take_of queue.old).next }
+    ensures answer { answer.new ≡ taken_numbers (take_of queue.old).queued (take_of queue.old).next }
     ensures queue { queue.new ≡ (take_of queue.old).queue }
 {
     *answer = taken_numbers(demands::take(queue));
@@ -41,8 +41,8 @@ pub extern "C" fn camlist_demand_take_v2(queue: &mut [u8], answer: &mut [u64; 7]
 
 #[unsafe(no_mangle)]
 pub extern "C" fn camlist_demand_clear_v2(queue: &mut [u8], answer: &mut [u64; 4])
-    ensures answer { answer.new ≡ queuedNumbers (clearOf queue.old).queued }
-    ensures queue { queue.new ≡ (clearOf queue.old).queue }
+    ensures answer { answer.new ≡ queued_numbers (clear_of queue.old).queued }
+    ensures queue { queue.new ≡ (clear_of queue.old).queue }
 {
     *answer = queued_numbers(demands::clear(queue));
 }

@@ -13,89 +13,89 @@ use borrow.Author.Tests.{lt-leb}
 use lib.ListN.{length, get_or, set, drop, length-append, get_or-append}
 use lib.Seq.{get_or-set_same, get_or-set_other, drop-cons, drop-nil, get_or-append_seam}
 use Rattle.base.specs.Checks.{if◌then◌else◌}
-use Rattle.listfile.specs.Fields.{nextField, field_of, number_of, Field, Fields, faulty, fields, ahead, fieldsFrom, badTarget, firstBadJump}
-use Rattle.listfile.specs.model.Table.{instructionAt, place_of, firstFields, FieldPassed, TableRight, TargetBelow, Beyond}
+use Rattle.listfile.specs.Fields.{next_field, field_of, number_of, Field, Fields, faulty, fields, ahead, fields_from, bad_target, first_bad_jump}
+use Rattle.listfile.specs.model.Table.{instruction_at, place_of, first_fields, FieldPassed, TableRight, TargetBelow, Beyond}
 use Rattle.listfile.specs.declared.field.Instruction.{Instruction}
 use Rattle.listfile.specs.declared.field.Instruction.TheVariants.{Camac, Jump, Literal, Halt}
 use Rattle.listfile.specs.declared.field.FieldRead.{FieldRead}
 use Rattle.listfile.specs.declared.field.FieldRead.TheVariants.{Read, Refused}
 use Rattle.listfile.proofs.FieldLaws.{read_again}
-use Rattle.listfile.proofs.Unrolled.{fields-end, fields-on}
+use Rattle.listfile.proofs.Unrolled.{fields_end, fields_on}
 
 one_less : (k : ℕ) → k ≡ suc k - 1
 one_less k = omega arith
 
 -- the field at a place, read without its checks
 abbrev pub here : List ℕ → ℕ → Field
-here list at = record { place = at; instruction = instructionAt list at }
+here list at = record { place = at; instruction = instruction_at list at }
 
 -- fields in front of others
 abbrev pub prefixed : List Field → Fields → Fields
 prefixed fs (faulty r) = faulty r
 prefixed fs (fields gs) = fields (fs ++ gs)
 
-prefixed-more : (fs : List Field) (f : Field) (rest : Fields)
+prefixed_more : (fs : List Field) (f : Field) (rest : Fields)
     → prefixed fs (ahead f rest) ≡ prefixed (fs ++ f ∷ []) rest
-prefixed-more fs f (faulty r) = refl
-prefixed-more fs f (fields gs) = ap fields (sym (append_assoc fs (f ∷ []) gs))
+prefixed_more fs f (faulty r) = refl
+prefixed_more fs f (fields gs) = ap fields (sym (append_assoc fs (f ∷ []) gs))
 
-prefixed-none : (x : Fields) → x ≡ prefixed [] x
-prefixed-none (faulty r) = refl
-prefixed-none (fields gs) = refl
+prefixed_none : (x : Fields) → x ≡ prefixed [] x
+prefixed_none (faulty r) = refl
+prefixed_none (fields gs) = refl
 
-pub pass-start : (list : List ℕ)
-    → fieldsFrom (length list) list 7 0 ≡ prefixed (firstFields list 0) (fieldsFrom (length list - 0) list 7 0)
-unfolding firstFields
-pass-start list =
-    let z : length list - 0 ≡ length list = omega arith in rw z (prefixed-none (fieldsFrom (length list) list 7 0))
+pub pass_start : (list : List ℕ)
+    → fields_from (length list) list 7 0 ≡ prefixed (first_fields list 0) (fields_from (length list - 0) list 7 0)
+unfolding first_fields
+pass_start list =
+    let z : length list - 0 ≡ length list = omega arith in rw z (prefixed_none (fields_from (length list) list 7 0))
 
-pub pass-refused : (list : List ℕ) (at n fuel : ℕ) (fs : List Field) (x : FieldRead) (m number : ℕ) → 0 < fuel
+pub pass_refused : (list : List ℕ) (at n fuel : ℕ) (fs : List Field) (x : FieldRead) (m number : ℕ) → 0 < fuel
     → at < length list → x ≡ field_of list at n → x ≡ Refused m → number ≡ number_of x
-    → prefixed fs (fieldsFrom fuel list at n) ≡ faulty (record { number = number; place = at })
-pass-refused list at n zero fs x m number u h e r en = absurd (omega arith)
-pass-refused list at n (suc fuel) fs x m number u h e r en = rw (fields-on fuel list at n h, ← e, en, r)
+    → prefixed fs (fields_from fuel list at n) ≡ faulty (record { number = number; place = at })
+pass_refused list at n zero fs x m number u h e r en = absurd (omega arith)
+pass_refused list at n (suc fuel) fs x m number u h e r en = rw (fields_on fuel list at n h, ← e, en, r)
 
-fields-step : (list : List ℕ) (at n fuel : ℕ) (i : Instruction) → at < length list → field_of list at n ≡ Read i
-    → fieldsFrom (suc fuel) list at n ≡ ahead (here list at) (fieldsFrom fuel list (nextField list at) (n + 1))
-fields-step list at n fuel i h e = rw (fields-on fuel list at n h, e, read_again list at n i e)
+fields_step : (list : List ℕ) (at n fuel : ℕ) (i : Instruction) → at < length list → field_of list at n ≡ Read i
+    → fields_from (suc fuel) list at n ≡ ahead (here list at) (fields_from fuel list (next_field list at) (n + 1))
+fields_step list at n fuel i h e = rw (fields_on fuel list at n h, e, read_again list at n i e)
 
-fields-more : (list : List ℕ) (at n : ℕ) → at ≡ place_of list n
-    → firstFields list n ++ here list at ∷ [] ≡ firstFields list (n + 1)
-unfolding firstFields
-fields-more list at n e = rw (add-one n, e)
+fields_more : (list : List ℕ) (at n : ℕ) → at ≡ place_of list n
+    → first_fields list n ++ here list at ∷ [] ≡ first_fields list (n + 1)
+unfolding first_fields
+fields_more list at n e = rw (add-one n, e)
 
-pub pass-more : (list : List ℕ) (at n fuel next : ℕ) (i : Instruction) → 0 < fuel → at < length list
-    → field_of list at n ≡ Read i → at ≡ place_of list n → next ≡ nextField list at
-    → prefixed (firstFields list n) (fieldsFrom fuel list at n) ≡ prefixed (firstFields list (n + 1))
-    (fieldsFrom (fuel - 1) list next (n + 1))
-pass-more list at n zero next i u h e a l = absurd (omega arith)
-pass-more list at n (suc fuel) next i u h e a l =
-    rw (← one_less fuel, l, ← fields-more list at n a, fields-step list at n fuel i h e)
-    (prefixed-more (firstFields list n) (here list at) (fieldsFrom fuel list (nextField list at) (n + 1)))
+pub pass_more : (list : List ℕ) (at n fuel next : ℕ) (i : Instruction) → 0 < fuel → at < length list
+    → field_of list at n ≡ Read i → at ≡ place_of list n → next ≡ next_field list at
+    → prefixed (first_fields list n) (fields_from fuel list at n) ≡ prefixed (first_fields list (n + 1))
+    (fields_from (fuel - 1) list next (n + 1))
+pass_more list at n zero next i u h e a l = absurd (omega arith)
+pass_more list at n (suc fuel) next i u h e a l =
+    rw (← one_less fuel, l, ← fields_more list at n a, fields_step list at n fuel i h e)
+    (prefixed_more (first_fields list n) (here list at) (fields_from fuel list (next_field list at) (n + 1)))
 
-pub pass-turn : (list : List ℕ) (at n next : ℕ) (i : Instruction) → n < length list → at < length list
-    → field_of list at n ≡ Read i → at ≡ place_of list n → next ≡ nextField list at
-    → prefixed (firstFields list n) (fieldsFrom (length list - n) list at n) ≡ prefixed (firstFields list (n + 1))
-    (fieldsFrom (length list - (n + 1)) list next (n + 1))
-pass-turn list at n next i u h e a l =
+pub pass_turn : (list : List ℕ) (at n next : ℕ) (i : Instruction) → n < length list → at < length list
+    → field_of list at n ≡ Read i → at ≡ place_of list n → next ≡ next_field list at
+    → prefixed (first_fields list n) (fields_from (length list - n) list at n) ≡ prefixed (first_fields list (n + 1))
+    (fields_from (length list - (n + 1)) list next (n + 1))
+pass_turn list at n next i u h e a l =
     let z : length list - (n + 1) ≡ length list - n - 1 = omega arith in
-    rw z (pass-more list at n (length list - n) next i (omega arith) h e a l)
+    rw z (pass_more list at n (length list - n) next i (omega arith) h e a l)
 
-pub pass-end : (list : List ℕ) (at n fuel : ℕ) → 0 < fuel → length list ≤ at
-    → prefixed (firstFields list n) (fieldsFrom fuel list at n) ≡ fields (firstFields list n)
-pass-end list at n zero u h = absurd (omega arith)
-pass-end list at n (suc fuel) u h = rw (fields-end fuel list at n h) (ap fields (append-none (firstFields list n)))
+pub pass_end : (list : List ℕ) (at n fuel : ℕ) → 0 < fuel → length list ≤ at
+    → prefixed (first_fields list n) (fields_from fuel list at n) ≡ fields (first_fields list n)
+pass_end list at n zero u h = absurd (omega arith)
+pass_end list at n (suc fuel) u h = rw (fields_end fuel list at n h) (ap fields (append_none (first_fields list n)))
   where
-    append-none : (fs : List Field) → fs ++ [] ≡ fs
-    append-none [] = refl
-    append-none (f ∷ fs) = ap (λ (x : List Field). f ∷ x) (append-none fs)
+    append_none : (fs : List Field) → fs ++ [] ≡ fs
+    append_none [] = refl
+    append_none (f ∷ fs) = ap (λ (x : List Field). f ∷ x) (append_none fs)
 
 -- The table ----------------------------------------------------------------------------------------------------------------
 
-pub place-more : (list : List ℕ) (at n next : ℕ) → at ≡ place_of list n → next ≡ nextField list at
+pub place_more : (list : List ℕ) (at n next : ℕ) → at ≡ place_of list n → next ≡ next_field list at
     → next ≡ place_of list (n + 1)
 unfolding place_of
-place-more list at n next e l = rw (add-one n, l, e)
+place_more list at n next e l = rw (add-one n, l, e)
 
 pub table_none : (list table : List ℕ) → TableRight list table 0
 table_none list table = record { entry = λ k h. absurd (omega arith); passed = λ k h. absurd (omega arith) }
@@ -122,57 +122,57 @@ above_more x y (Jump target) h t = omega arith
 above_more x y (Literal v) h t = tt
 above_more x y Halt h t = tt
 
-pub beyond-none : (list : List ℕ) (x : ℕ) → Beyond list 0 x
-beyond-none list x = record { target = λ k h. absurd (omega arith) }
+pub beyond_none : (list : List ℕ) (x : ℕ) → Beyond list 0 x
+beyond_none list x = record { target = λ k h. absurd (omega arith) }
 
-pub beyond-more : (list : List ℕ) (at n x y : ℕ) (i : Instruction) → Beyond list n x → at ≡ place_of list n → field_of list at n ≡ Read i
+pub beyond_more : (list : List ℕ) (at n x y : ℕ) (i : Instruction) → Beyond list n x → at ≡ place_of list n → field_of list at n ≡ Read i
     → x ≤ y → TargetBelow y i → Beyond list (n + 1) y
-beyond-more list at n x y i b e r h t = record {
+beyond_more list at n x y i b e r h t = record {
   target = λ k l.
       ⊎_elim
-      (λ p. rw p (subst (λ (a : ℕ). TargetBelow y (instructionAt list a)) e (subst (TargetBelow y) (read_again list at n i r) t)))
-      (λ l. above_more x y (instructionAt list (place_of list k)) h (b.target k l))
+      (λ p. rw p (subst (λ (a : ℕ). TargetBelow y (instruction_at list a)) e (subst (TargetBelow y) (read_again list at n i r) t)))
+      (λ l. above_more x y (instruction_at list (place_of list k)) h (b.target k l))
       (below_next k n l);
 }
 
-pub count-fields : (list : List ℕ) (n : ℕ) → length (firstFields list n) ≡ n
-unfolding firstFields
-count-fields list zero = refl
-count-fields list (suc n) =
-    length-append (firstFields list n) (here list (place_of list n) ∷ []) ∙ rw (count-fields list n) (omega arith)
+pub count_fields : (list : List ℕ) (n : ℕ) → length (first_fields list n) ≡ n
+unfolding first_fields
+count_fields list zero = refl
+count_fields list (suc n) =
+    length-append (first_fields list n) (here list (place_of list n) ∷ []) ∙ rw (count_fields list n) (omega arith)
 
-pub entry-field : (list : List ℕ) (n k : ℕ) (d : Field) → k < n
-    → get_or (firstFields list n) k d ≡ here list (place_of list k)
-unfolding firstFields
-entry-field list zero k d h = absurd (omega arith)
-entry-field list (suc n) k d h =
+pub entry_field : (list : List ℕ) (n k : ℕ) (d : Field) → k < n
+    → get_or (first_fields list n) k d ≡ here list (place_of list k)
+unfolding first_fields
+entry_field list zero k d h = absurd (omega arith)
+entry_field list (suc n) k d h =
     ⊎_elim
     (λ e. rw e
-    (ap (λ (j : ℕ). get_or (firstFields list n ++ here list (place_of list n) ∷ []) j d) (sym (count-fields list n))
-    ∙ get_or-append_seam (firstFields list n) (here list (place_of list n)) [] d))
-    (λ b. get_or-append (firstFields list n) (here list (place_of list n) ∷ []) d k (rw (count-fields list n) b)
-    ∙ entry-field list n k d b)
+    (ap (λ (j : ℕ). get_or (first_fields list n ++ here list (place_of list n) ∷ []) j d) (sym (count_fields list n))
+    ∙ get_or-append_seam (first_fields list n) (here list (place_of list n)) [] d))
+    (λ b. get_or-append (first_fields list n) (here list (place_of list n) ∷ []) d k (rw (count_fields list n) b)
+    ∙ entry_field list n k d b)
     (eq-or-lt_of_le (le_of_suc-le-suc h))
 
 pub from_field : (list : List ℕ) (n k : ℕ) → k < n
-    → drop k (firstFields list n) ≡ here list (place_of list k) ∷ drop (k + 1) (firstFields list n)
+    → drop k (first_fields list n) ≡ here list (place_of list k) ∷ drop (k + 1) (first_fields list n)
 from_field list n k h =
     rw add-one
-    (drop-cons (firstFields list n) k (here list 0) (rw (count-fields list n) h) ∙ rw
-    (entry-field list n k (here list 0) h))
+    (drop-cons (first_fields list n) k (here list 0) (rw (count_fields list n) h) ∙ rw
+    (entry_field list n k (here list 0) h))
 
 -- Refusal 10 ---------------------------------------------------------------------------------------------------------------
 
 module _ (list table : List ℕ) (n k at : ℕ) (i : Instruction) (h : k < n) (right : TableRight list table n) (ea : at ≡ get_or table k 0)
-    (ei : i ≡ instructionAt list at) where
-  pub jumps-bad : true ≡ badTarget n i → firstBadJump n (drop k (firstFields list n)) ≡ some at
-  unfolding firstBadJump
-  jumps-bad b = rw (from_field list n k h, ← right.entry k h, ← ea, ← ei, ← b)
+    (ei : i ≡ instruction_at list at) where
+  pub jumps_bad : true ≡ bad_target n i → first_bad_jump n (drop k (first_fields list n)) ≡ some at
+  unfolding first_bad_jump
+  jumps_bad b = rw (from_field list n k h, ← right.entry k h, ← ea, ← ei, ← b)
 
-  pub jumps-more : false ≡ badTarget n i
-      → firstBadJump n (drop k (firstFields list n)) ≡ firstBadJump n (drop (k + 1) (firstFields list n))
-  unfolding firstBadJump
-  jumps-more b = rw (from_field list n k h, ← right.entry k h, ← ea, ← ei, ← b)
+  pub jumps_more : false ≡ bad_target n i
+      → first_bad_jump n (drop k (first_fields list n)) ≡ first_bad_jump n (drop (k + 1) (first_fields list n))
+  unfolding first_bad_jump
+  jumps_more b = rw (from_field list n k h, ← right.entry k h, ← ea, ← ei, ← b)
 
 drop_past : (fs : List Field) (k : ℕ) → length fs ≤ k → drop k fs ≡ []
 drop_past [] k h = drop-nil k
@@ -180,32 +180,32 @@ drop_past (f ∷ fs) zero h = absurd (omega arith)
 drop_past (f ∷ fs) (suc k) h = drop_past fs k (omega arith)
 
 -- a field more, whose jump leads to one of the instructions
-right-more : (m : ℕ) (fs : List Field) (f : Field) → firstBadJump m fs ≡ none → badTarget m f.instruction ≡ false
-    → firstBadJump m (fs ++ f ∷ []) ≡ none
-unfolding firstBadJump
-right-more m [] f e h = rw h
-right-more m (g ∷ fs) f e h = go (badTarget m g.instruction) e (λ e. right-more m fs f e h)
+right_more : (m : ℕ) (fs : List Field) (f : Field) → first_bad_jump m fs ≡ none → bad_target m f.instruction ≡ false
+    → first_bad_jump m (fs ++ f ∷ []) ≡ none
+unfolding first_bad_jump
+right_more m [] f e h = rw h
+right_more m (g ∷ fs) f e h = go (bad_target m g.instruction) e (λ e. right_more m fs f e h)
   where
-    go : (b : Bool) → (if b then some g.place else firstBadJump m fs) ≡ none → (firstBadJump m fs ≡ none → firstBadJump m (fs ++ f ∷ []) ≡ none)
-        → (if b then some g.place else firstBadJump m (fs ++ f ∷ [])) ≡ none
+    go : (b : Bool) → (if b then some g.place else first_bad_jump m fs) ≡ none → (first_bad_jump m fs ≡ none → first_bad_jump m (fs ++ f ∷ []) ≡ none)
+        → (if b then some g.place else first_bad_jump m (fs ++ f ∷ [])) ≡ none
     go true e ih = e
     go false e ih = ih e
 
-right-target : (m x : ℕ) (i : Instruction) → x ≤ m → TargetBelow x i → badTarget m i ≡ false
-right-target m x (Camac c) h t = refl
-right-target m x (Jump target) h t = lt-leb m target (omega arith)
-right-target m x (Literal v) h t = refl
-right-target m x Halt h t = refl
+right_target : (m x : ℕ) (i : Instruction) → x ≤ m → TargetBelow x i → bad_target m i ≡ false
+right_target m x (Camac c) h t = refl
+right_target m x (Jump target) h t = lt-leb m target (omega arith)
+right_target m x (Literal v) h t = refl
+right_target m x Halt h t = refl
 
 -- where no jump leads past the last instruction, none is bad
-pub jumps-within : (list : List ℕ) (n m x : ℕ) → Beyond list n x → x ≤ m → firstBadJump m (firstFields list n) ≡ none
-unfolding firstFields firstBadJump
-jumps-within list zero m x b h = refl
-jumps-within list (suc n) m x b h =
-    right-more m (firstFields list n) (here list (place_of list n))
-    (jumps-within list n m x (record { target = λ k l. b.target k (omega arith) }) h)
-    (right-target m x (instructionAt list (place_of list n)) h (b.target n (omega arith)))
+pub jumps_within : (list : List ℕ) (n m x : ℕ) → Beyond list n x → x ≤ m → first_bad_jump m (first_fields list n) ≡ none
+unfolding first_fields first_bad_jump
+jumps_within list zero m x b h = refl
+jumps_within list (suc n) m x b h =
+    right_more m (first_fields list n) (here list (place_of list n))
+    (jumps_within list n m x (record { target = λ k l. b.target k (omega arith) }) h)
+    (right_target m x (instruction_at list (place_of list n)) h (b.target n (omega arith)))
 
-pub jumps-right : (list : List ℕ) (n k : ℕ) → n ≤ k → firstBadJump n (drop k (firstFields list n)) ≡ none
-unfolding firstBadJump
-jumps-right list n k h = rw (drop_past (firstFields list n) k (rw (count-fields list n) h))
+pub jumps_right : (list : List ℕ) (n k : ℕ) → n ≤ k → first_bad_jump n (drop k (first_fields list n)) ≡ none
+unfolding first_bad_jump
+jumps_right list n k h = rw (drop_past (first_fields list n) k (rw (count_fields list n) h))

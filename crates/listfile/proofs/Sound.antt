@@ -3,7 +3,7 @@ use Prim.Native.Nat.{◌≤◌}
 use mathlib.Core.Path.{◌≡◌}
 use mathlib.Core.List.{List, [], ◌∷◌}
 use Rattle.qmodes.specs.Scan.{positions}
-use Rattle.camac.specs.Words.{qmodeOf, address_of, words_of, position_of}
+use Rattle.camac.specs.Words.{qmode_of, address_of, words_of, position_of}
 use Rattle.qmodes.specs.declared.modes.QMode.TheVariants.{Scan}
 use Rattle.camac.specs.declared.words.Transfer.{Transfer}
 use Rattle.camac.specs.declared.words.Command.{Command}
@@ -13,16 +13,16 @@ use Rattle.listfile.specs.declared.field.Instruction.TheVariants.{Camac, Jump, L
 
 -- a scan begins at a station from 1 to 23 and has a position for each word
 pub record SoundScan (t : Transfer) : Type 0 where
-  pub station-least : 1 ≤ (address_of t).station
-  pub station-most : (address_of t).station ≤ 23
-  pub subaddress-most : (address_of t).subaddress ≤ 15
+  pub station_least : 1 ≤ (address_of t).station
+  pub station_most : (address_of t).station ≤ 23
+  pub subaddress_most : (address_of t).subaddress ≤ 15
   pub room : words_of t ≤ positions (position_of t)
 
 -- a CAMAC instruction wants 1 to 65,536 words
 pub record SoundCommand (c : Command) : Type 0 where
-  pub words-least : 1 ≤ words_of c.transfer
-  pub words-most : words_of c.transfer ≤ 65536
-  pub scan : qmodeOf c.transfer ≡ Scan → SoundScan c.transfer
+  pub words_least : 1 ≤ words_of c.transfer
+  pub words_most : words_of c.transfer ≤ 65536
+  pub scan : qmode_of c.transfer ≡ Scan → SoundScan c.transfer
 
 abbrev pub SoundInstruction : Instruction → Type 0
 SoundInstruction (Camac c) = SoundCommand c

@@ -3,11 +3,11 @@
 use Rattle.std.specs.Prelude.{ℕ, zero, suc, ◌+◌, min, Bool, true, false, ◌&&◌, ◌||◌, not, List, [], ◌∷◌, leb, ltb, eqb, length}
 use Rattle.std.proofs.Math.Option.{Option, none, some}
 use Rattle.base.specs.Checks.{if◌then◌else◌, Check, ◌gives◌, first_of}
-use Rattle.camac.specs.Words.{decodeOf}
+use Rattle.camac.specs.Words.{decode_of}
 use Rattle.camac.specs.declared.words.Decoded.{Decoded}
 use Rattle.camac.specs.declared.words.Decoded.TheVariants.{Carried}
 use Rattle.camac.specs.declared.words.Decoded.TheVariants as camac
-use Rattle.base.specs.Bytes.{byteAt, short_at, longAt}
+use Rattle.base.specs.Bytes.{byte_at, short_at, long_at}
 use Rattle.base.specs.declared.Refusal.{Refusal}
 use Rattle.listfile.specs.declared.field.Instruction.{Instruction}
 use Rattle.listfile.specs.declared.field.Instruction.TheVariants.{Camac, Jump, Literal, Halt}
@@ -19,16 +19,16 @@ use Rattle.listfile.specs.declared.field.Tag.TheVariants.{CamacTag, JumpTag, Lit
 -- One field --------------------------------------------------------------------------------------------------------------
 
 -- "one-byte tag, two-byte length, body"
-abbrev pub bodyLength : List ℕ → ℕ → ℕ
-bodyLength list at = short_at list (at + 1)
+abbrev pub body_length : List ℕ → ℕ → ℕ
+body_length list at = short_at list (at + 1)
 
-abbrev pub nextField : List ℕ → ℕ → ℕ
-nextField list at = at + 3 + bodyLength list at
+abbrev pub next_field : List ℕ → ℕ → ℕ
+next_field list at = at + 3 + body_length list at
 
 -- "A field reader keeps the list and the offset of the next field together": where it comes to behind the field at an offset, the next field or the
 -- list's end where the field runs past it
-abbrev pub placeAfter : List ℕ → ℕ → ℕ
-placeAfter list at = min (nextField list at) (length list)
+abbrev pub place_after : List ℕ → ℕ → ℕ
+place_after list at = min (next_field list at) (length list)
 
 -- "10h .. CAMAC instruction", "20h .. jump", "21h .. literal longword", "2Fh .. halt"
 abbrev pub tag_of : ℕ → Tag
@@ -40,48 +40,48 @@ tag_of byte =
     else UnknownTag
 
 abbrev pub tag_at : List ℕ → ℕ → Tag
-tag_at list at = tag_of (byteAt list at)
+tag_at list at = tag_of (byte_at list at)
 
 -- "CAMAC instruction, one or two longwords": a field of length 4 has no second one, and its value here is 0
 unfoldable pub first_at : List ℕ → ℕ → ℕ
-first_at list at = longAt list (at + 3)
+first_at list at = long_at list (at + 3)
 
-unfoldable pub secondAt : List ℕ → ℕ → ℕ
-secondAt list at = if eqb (bodyLength list at) 8 then longAt list (at + 7) else 0
+unfoldable pub second_at : List ℕ → ℕ → ℕ
+second_at list at = if eqb (body_length list at) 8 then long_at list (at + 7) else 0
 
 -- "3: unknown tag, or 01h again"
-abbrev pub isUnknown : Tag → Bool
-isUnknown CamacTag = false
-isUnknown JumpTag = false
-isUnknown LiteralTag = false
-isUnknown HaltTag = false
-isUnknown UnknownTag = true
+abbrev pub is_unknown : Tag → Bool
+is_unknown CamacTag = false
+is_unknown JumpTag = false
+is_unknown LiteralTag = false
+is_unknown HaltTag = false
+is_unknown UnknownTag = true
 
 -- "4: length wrong for its tag", by the table
-abbrev pub wrongLength : Tag → ℕ → Bool
-wrongLength CamacTag len = not (eqb len 4 || eqb len 8)
-wrongLength JumpTag len = not (eqb len 2)
-wrongLength LiteralTag len = not (eqb len 4)
-wrongLength HaltTag len = not (eqb len 0)
-wrongLength UnknownTag len = true
+abbrev pub wrong_length : Tag → ℕ → Bool
+wrong_length CamacTag len = not (eqb len 4 || eqb len 8)
+wrong_length JumpTag len = not (eqb len 2)
+wrong_length LiteralTag len = not (eqb len 4)
+wrong_length HaltTag len = not (eqb len 0)
+wrong_length UnknownTag len = true
 
 -- "1: a field's head or body runs past the end", "5: instruction 4,097", 3 and 4, in the order listed; 2 is the first field's
-abbrev pub headChecks : List ℕ → ℕ → ℕ → List Check
-headChecks list at count =
+abbrev pub head_checks : List ℕ → ℕ → ℕ → List Check
+head_checks list at count =
     ltb (length list) (at + 3) gives 1
-    ∷ ltb (length list) (nextField list at) gives 1
+    ∷ ltb (length list) (next_field list at) gives 1
     ∷ leb 4096 count gives 5
-    ∷ isUnknown (tag_at list at) gives 3
-    ∷ wrongLength (tag_at list at) (bodyLength list at) gives 4
+    ∷ is_unknown (tag_at list at) gives 3
+    ∷ wrong_length (tag_at list at) (body_length list at) gives 4
     ∷ []
 
 -- the first of them that applies; 0 where none does
-unfoldable pub headFault : List ℕ → ℕ → ℕ → ℕ
-headFault list at count = first_of (headChecks list at count)
+unfoldable pub head_fault : List ℕ → ℕ → ℕ → ℕ
+head_fault list at count = first_of (head_checks list at count)
 
-abbrev pub carriedBy : Decoded → FieldRead
-carriedBy (Carried c) = Read (Camac c)
-carriedBy (camac.Refused number) = Refused number
+abbrev pub carried_by : Decoded → FieldRead
+carried_by (Carried c) = Read (Camac c)
+carried_by (camac.Refused number) = Refused number
 
 -- "a definition gives this paper's number and values for each case": the number of a decode's answer, 0 where it is not refused
 abbrev pub number_in : Decoded → ℕ
@@ -90,9 +90,9 @@ number_in (camac.Refused number) = number
 
 -- a field's body by its tag: the instruction, "jump: number of the target instruction" among them, or 6 to 9
 unfoldable pub body_of : Tag → List ℕ → ℕ → FieldRead
-body_of CamacTag list at = carriedBy (decodeOf (bodyLength list at) (first_at list at) (secondAt list at))
+body_of CamacTag list at = carried_by (decode_of (body_length list at) (first_at list at) (second_at list at))
 body_of JumpTag list at = Read (Jump (short_at list (at + 3)))
-body_of LiteralTag list at = Read (Literal (longAt list (at + 3)))
+body_of LiteralTag list at = Read (Literal (long_at list (at + 3)))
 body_of HaltTag list at = Read Halt
 body_of UnknownTag list at = Refused 3
 
@@ -102,7 +102,7 @@ after_head (suc number) body = Refused (suc number)
 
 -- the field at a place, "each in the order listed for 1 to 9"
 unfoldable pub field_of : List ℕ → ℕ → ℕ → FieldRead
-field_of list at count = after_head (headFault list at count) (body_of (tag_at list at) list at)
+field_of list at count = after_head (head_fault list at count) (body_of (tag_at list at) list at)
 
 -- "a definition gives this paper's number and values for each case": the number of a field's answer, 0 where it is not refused
 abbrev pub number_of : FieldRead → ℕ
@@ -110,22 +110,22 @@ number_of (Read i) = 0
 number_of (Refused number) = number
 
 -- "01h .. format 1, a zero byte .. First field, once"
-abbrev pub isFirst : List ℕ → Bool
-isFirst list = eqb (byteAt list 0) 1 && eqb (byteAt list 3) 1 && eqb (byteAt list 4) 0
+abbrev pub is_first : List ℕ → Bool
+is_first list = eqb (byte_at list 0) 1 && eqb (byte_at list 3) 1 && eqb (byte_at list 4) 0
 
 -- 1 of the first field, and "2: no field, or the first isn't as in the table": of length 4, with "R (two bytes, 1 to 65,535)"
-abbrev pub firstChecks : List ℕ → List Check
-firstChecks list =
+abbrev pub first_checks : List ℕ → List Check
+first_checks list =
     eqb (length list) 0 gives 2
     ∷ ltb (length list) 3 gives 1
-    ∷ ltb (length list) (nextField list 0) gives 1
-    ∷ not (eqb (bodyLength list 0) 4) gives 2
+    ∷ ltb (length list) (next_field list 0) gives 1
+    ∷ not (eqb (body_length list 0) 4) gives 2
     ∷ ltb (short_at list 5) 1 gives 2
-    ∷ not (isFirst list) gives 2
+    ∷ not (is_first list) gives 2
     ∷ []
 
-unfoldable pub firstFault : List ℕ → ℕ
-firstFault list = first_of (firstChecks list)
+unfoldable pub first_fault : List ℕ → ℕ
+first_fault list = first_of (first_checks list)
 
 -- All fields -------------------------------------------------------------------------------------------------------------
 
@@ -149,23 +149,23 @@ joined at (Refused number) rest = faulty (record { number = number; place = at }
 
 -- "Fields go front to back", and "Unreached fields are checked too": those from `at` on. A field is at least three bytes, so that fuel for each byte
 -- suffices.
-unfoldable pub fieldsFrom : ℕ → List ℕ → ℕ → ℕ → Fields
-fieldsFrom zero list at count = faulty (record { number = 1; place = at })
-fieldsFrom (suc fuel) list at count =
+unfoldable pub fields_from : ℕ → List ℕ → ℕ → ℕ → Fields
+fields_from zero list at count = faulty (record { number = 1; place = at })
+fields_from (suc fuel) list at count =
     if leb (length list) at then fields []
-    else joined at (field_of list at count) (fieldsFrom fuel list (nextField list at) (count + 1))
+    else joined at (field_of list at count) (fields_from fuel list (next_field list at) (count + 1))
 
 -- "10: jump target not an instruction"
-abbrev pub badTarget : ℕ → Instruction → Bool
-badTarget count (Camac c) = false
-badTarget count (Jump target) = leb count target
-badTarget count (Literal v) = false
-badTarget count Halt = false
+abbrev pub bad_target : ℕ → Instruction → Bool
+bad_target count (Camac c) = false
+bad_target count (Jump target) = leb count target
+bad_target count (Literal v) = false
+bad_target count Halt = false
 
 -- the place of the first such jump
-unfoldable pub firstBadJump : ℕ → List Field → Option ℕ
-firstBadJump count [] = none
-firstBadJump count (f ∷ fs) = if badTarget count f.instruction then some f.place else firstBadJump count fs
+unfoldable pub first_bad_jump : ℕ → List Field → Option ℕ
+first_bad_jump count [] = none
+first_bad_jump count (f ∷ fs) = if bad_target count f.instruction then some f.place else first_bad_jump count fs
 
 -- a list that passes 1 to 10: "Instructions are the fields after the first, numbered from 0, at most 4,096. R is the try limit."
 pub record Program : Type 0 where
@@ -176,19 +176,19 @@ pub data Listed : Type 0 where
   refused : Refusal → Listed
   program : Program → Listed
 
-abbrev pub afterJumps : ℕ → List Field → Option ℕ → Listed
-afterJumps limit fs none = program (record { limit = limit; fields = fs })
-afterJumps limit fs (some place) = refused (record { number = 10; place = place })
+abbrev pub after_jumps : ℕ → List Field → Option ℕ → Listed
+after_jumps limit fs none = program (record { limit = limit; fields = fs })
+after_jumps limit fs (some place) = refused (record { number = 10; place = place })
 
 -- "then 10 over all fields"
-abbrev pub afterFields : ℕ → Fields → Listed
-afterFields limit (faulty r) = refused r
-afterFields limit (fields fs) = afterJumps limit fs (firstBadJump (length fs) fs)
+abbrev pub after_fields : ℕ → Fields → Listed
+after_fields limit (faulty r) = refused r
+after_fields limit (fields fs) = after_jumps limit fs (first_bad_jump (length fs) fs)
 
-abbrev pub afterFirst : ℕ → List ℕ → Listed
-afterFirst zero list = afterFields (short_at list 5) (fieldsFrom (length list) list 7 0)
-afterFirst (suc number) list = refused (record { number = suc number; place = 0 })
+abbrev pub after_first : ℕ → List ℕ → Listed
+after_first zero list = after_fields (short_at list 5) (fields_from (length list) list 7 0)
+after_first (suc number) list = refused (record { number = suc number; place = 0 })
 
 -- refusals 1 to 10, or the program
 unfoldable pub program_of : List ℕ → Listed
-program_of list = afterFirst (firstFault list) list
+program_of list = after_first (first_fault list) list

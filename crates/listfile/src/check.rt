@@ -1,7 +1,7 @@
 // All fields front to back: refusals 1 to 10.
 ghost use Rattle.std.specs.Prelude.{◌≡◌, ◌≤◌, length};
-ghost use Rattle.listfile.specs.Fields.{isFirst, firstFault, fieldsFrom, badTarget, firstBadJump, program_of};
-ghost use Rattle.listfile.specs.model.Table.{firstFields, TableRight, TargetBelow, Beyond, fieldsBy, TableBy, refusalIn, badJumpBy, listedBy, TableChecked, refusalOf};
+ghost use Rattle.listfile.specs.Fields.{is_first, first_fault, fields_from, bad_target, first_bad_jump, program_of};
+ghost use Rattle.listfile.specs.model.Table.{first_fields, TableRight, TargetBelow, Beyond, fields_by, TableBy, refusal_in, bad_jump_by, listed_by, TableChecked, refusal_of};
 
 use crate::field::{FieldRead, Instruction, instruction_at, next_place, number_of};
 use crate::reader::read_at;
@@ -63,7 +63,7 @@ fn beyond(furthest: usize, i: Instruction) -> usize
 // Front to back over the fields behind the first; the table gets the place of each. The caller's table has 4,096 entries.
 fn pass_fields(list: &[u8], table: &mut [u16]) -> Pass
     requires { (7 ≤ length list.now) × (length table.old ≡ 4096) }
-    ensures { (fieldsFrom (length list.now) list.now 7 0 ≡ fieldsBy list.now result)
+    ensures { (fields_from (length list.now) list.now 7 0 ≡ fields_by list.now result)
         × TableBy list.now table.new result }
 {
     let mut at: usize = 7;
@@ -90,7 +90,7 @@ fn pass_fields(list: &[u8], table: &mut [u16]) -> Pass
 }
 
 fn is_bad_target(count: usize, i: Instruction) -> bool
-    ensures { result ≡ badTarget count i }
+    ensures { result ≡ bad_target count i }
 {
     match i {
         Instruction::Camac(_) => false,
@@ -103,7 +103,7 @@ fn is_bad_target(count: usize, i: Instruction) -> bool
 // The first such jump, field by field.
 fn check_jumps(list: &[u8], table: &[u16], count: usize) -> Jumps
     requires { (count ≤ length table.now) × TableRight list.now table.now count }
-    ensures { firstBadJump count (firstFields list.now count) ≡ badJumpBy result }
+    ensures { first_bad_jump count (first_fields list.now count) ≡ bad_jump_by result }
 {
     let mut k: usize = 0;
     while k < count {
@@ -119,7 +119,7 @@ fn check_jumps(list: &[u8], table: &[u16], count: usize) -> Jumps
 // Refusal 10 over all fields, which are looked at again only where a jump leads past the last instruction.
 fn bad_jump(list: &[u8], table: &[u16], count: usize, furthest: usize) -> Jumps
     requires { (count ≤ length table.now) × (TableRight list.now table.now count × Beyond list.now count furthest) }
-    ensures { firstBadJump count (firstFields list.now count) ≡ badJumpBy result }
+    ensures { first_bad_jump count (first_fields list.now count) ≡ bad_jump_by result }
 {
     if furthest <= count {
         return Jumps::Right;
@@ -130,14 +130,14 @@ fn bad_jump(list: &[u8], table: &[u16], count: usize, furthest: usize) -> Jumps
 // The first field's tag, format and zero byte are as in the table. It is seven bytes.
 fn is_first(list: &[u8]) -> bool
     requires { 7 ≤ length list.now }
-    ensures { result ≡ isFirst list.now }
+    ensures { result ≡ is_first list.now }
 {
     (list[0] == 1) & (list[3] == 1) & (list[4] == 0)
 }
 
 // Refusals 1 and 2 of the first field, 0 where it passes.
 fn first_fault(list: &[u8]) -> u8
-    ensures { result ≡ firstFault list.now }
+    ensures { result ≡ first_fault list.now }
 {
     if list.len() == 0 {
         return 2;
@@ -162,7 +162,7 @@ fn first_fault(list: &[u8]) -> u8
 }
 
 fn refusal_in(p: Pass) -> Refusal
-    ensures { result ≡ refusalIn p }
+    ensures { result ≡ refusal_in p }
 {
     match p {
         Pass::Refused(r) => r,
@@ -177,7 +177,7 @@ fn refusal_in(p: Pass) -> Refusal
 // entries.
 pub fn check_list(list: &[u8], table: &mut [u16]) -> Checked
     requires { length table.old ≡ 4096 }
-    ensures { (program_of list.now ≡ listedBy list.now result)
+    ensures { (program_of list.now ≡ listed_by list.now result)
         × TableChecked list.now table.new result }
 {
     let fault = first_fault(list);
@@ -207,7 +207,7 @@ pub fn check_list(list: &[u8], table: &mut [u16]) -> Checked
 
 // The refusal of the checks, zeros where it is none.
 pub fn refusal_of(c: Checked) -> Refusal
-    ensures { result ≡ refusalOf c }
+    ensures { result ≡ refusal_of c }
 {
     match c {
         Checked::Refused(r) => r,

@@ -1,7 +1,7 @@
 // One field of the list file: its tag, its length, its instruction, refusals 1 and 3 to 9.
 ghost use Rattle.std.specs.Prelude.{◌≡◌, ◌^◌, ◌<◌, ◌≤◌, length, leb, eqb, ◌||◌};
-ghost use Rattle.listfile.specs.Fields.{tag_of, tag_at, bodyLength, nextField, placeAfter, secondAt, number_in, body_of, field_of, number_of};
-ghost use Rattle.listfile.specs.model.Table.{instructionAt, read_by};
+ghost use Rattle.listfile.specs.Fields.{tag_of, tag_at, body_length, next_field, place_after, second_at, number_in, body_of, field_of, number_of};
+ghost use Rattle.listfile.specs.model.Table.{instruction_at, read_by};
 
 use camac::{Command, Decoded};
 
@@ -53,14 +53,14 @@ fn tag_at(list: &[u8], at: usize) -> Tag
 // The place behind the field at a place. A place is below 2^63: it counts bytes of a list.
 pub(crate) fn next_place(list: &[u8], at: usize) -> usize
     requires { at < 2 ^ 63 }
-    ensures { result ≡ nextField list.now at }
+    ensures { result ≡ next_field list.now at }
 {
     at + 3 + base::short_at(list, at + 1)
 }
 
 // Where a reader comes to behind the field at any offset.
 pub(crate) fn place_after(list: &[u8], at: usize) -> usize
-    ensures { result ≡ placeAfter list.now at }
+    ensures { result ≡ place_after list.now at }
 {
     if at < list.len() {
         let next = next_place(list, at);
@@ -81,7 +81,7 @@ pub(crate) fn is_past(list: &[u8], at: usize) -> bool
 // The second longword, 0 where the field has none. A place is below 2^63.
 fn second_at(list: &[u8], at: usize) -> u32
     requires { at < 2 ^ 63 }
-    ensures { result ≡ secondAt list.now at }
+    ensures { result ≡ second_at list.now at }
 {
     if base::short_at(list, at + 1) == 8 {
         return base::long_at(list, at + 7);
@@ -91,7 +91,7 @@ fn second_at(list: &[u8], at: usize) -> u32
 
 // The instruction of a field that has passed its checks.
 pub fn instruction_at(list: &[u8], place: u16) -> Instruction
-    ensures { result ≡ instructionAt list.now place }
+    ensures { result ≡ instruction_at list.now place }
 {
     let at = place as usize;
     let tag = tag_at(list, at);
@@ -133,7 +133,7 @@ fn is_one_or_two(len: usize) -> bool
 
 // A CAMAC field's body, which lies in the list and has one longword or two.
 fn camac_at(list: &[u8], at: usize) -> FieldRead
-    requires { (nextField list.now at ≤ length list.now) × (4 ≤ bodyLength list.now at) }
+    requires { (next_field list.now at ≤ length list.now) × (4 ≤ body_length list.now at) }
     ensures { result ≡ body_of Tag.CamacTag list.now at }
 {
     let len = base::short_at(list, at + 1);
@@ -146,7 +146,7 @@ fn camac_at(list: &[u8], at: usize) -> FieldRead
 
 // A field that lies in the list, by its tag: refusals 3, 4 and 6 to 9. The tag is matched once.
 fn body_at(list: &[u8], at: usize) -> FieldRead
-    requires { nextField list.now at ≤ length list.now }
+    requires { next_field list.now at ≤ length list.now }
     ensures { result ≡ read_by (tag_at list.now at) list.now at }
 {
     let len = base::short_at(list, at + 1);

@@ -1,9 +1,9 @@
 // Parts of a field that has passed its checks, read in place: what a walk or a run asks of it without decoding it whole.
 ghost use Rattle.std.specs.Prelude.{◌≡◌, ◌+◌};
 ghost use Rattle.base.specs.Bytes.{short_at};
-ghost use Rattle.camac.specs.Words.{commandIn, words_of};
+ghost use Rattle.camac.specs.Words.{command_in, words_of};
 ghost use Rattle.camac.specs.model.Bits.{Passes};
-ghost use Rattle.listfile.specs.Fields.{tag_at, first_at, secondAt};
+ghost use Rattle.listfile.specs.Fields.{tag_at, first_at, second_at};
 ghost use Rattle.listfile.specs.model.Table.{FieldPassed};
 ghost use Rattle.listfile.specs.declared.field.Tag.TheVariants.{CamacTag, JumpTag};
 
@@ -27,7 +27,7 @@ pub fn first_at(list: &[u8], at: usize) -> u32
 // n of the CAMAC field with a first longword. The second one is read only of a block, and only a block needs it.
 pub fn words_at(list: &[u8], at: usize, first: u32) -> u64
     requires { FieldPassed list.now at × ((tag_at list.now at ≡ CamacTag) × (first ≡ first_at list.now at)) }
-    ensures { result ≡ words_of (commandIn first (secondAt list.now at)).transfer }
+    ensures { result ≡ words_of (command_in first (second_at list.now at)).transfer }
 {
     if camac::is_block(first) {
         return camac::words_in(first, base::whole_at(list, at + 7));

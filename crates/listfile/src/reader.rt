@@ -1,6 +1,6 @@
 // The field reader. Its functions leave the work to those over a list and a place.
 ghost use Rattle.std.specs.Prelude.{◌≡◌, length, leb};
-ghost use Rattle.listfile.specs.Fields.{placeAfter, field_of};
+ghost use Rattle.listfile.specs.Fields.{place_after, field_of};
 
 use crate::field::{FieldRead, field_at, is_past, place_after};
 
@@ -27,7 +27,7 @@ pub fn read<'a>(r: Reader<'a>, count: usize) -> FieldRead
 
 // The reader past its field.
 pub fn moved<'a>(r: Reader<'a>) -> Reader<'a>
-    ensures { (result.list ≡ r.entry.list) × (result.at ≡ placeAfter r.entry.list.now r.entry.at) }
+    ensures { (result.list ≡ r.entry.list) × (result.at ≡ place_after r.entry.list.now r.entry.at) }
 {
     Reader {
         list: r.list,

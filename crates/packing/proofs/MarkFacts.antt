@@ -9,114 +9,114 @@ use borrow.Author.Tests.{eqb-true, eqb-false}
 use lib.Dec.{eqb}
 use lib.ListN.{length, get_or, replicate, length-append, length-replicate}
 use lib.Seq.{sets, length-sets}
-use Rattle.base.specs.Bytes.{shortBytes, longBytes}
+use Rattle.base.specs.Bytes.{short_bytes, long_bytes}
 use Rattle.base.specs.Checks.{if◌then◌else◌}
-use Rattle.base.proofs.Puts.{sets-other, zeros-left}
+use Rattle.base.proofs.Puts.{sets_other, zeros_left}
 use Rattle.base.proofs.Tests.{on}
-use Rattle.packing.specs.Packing.{padAt, alignedMark, width_of, markAfter, markAfterWords, bytes_of, stored}
+use Rattle.packing.specs.Packing.{pad_at, aligned_mark, width_of, mark_after, mark_after_words, bytes_of, stored}
 
-pub mark-grows : (wide : Bool) (m : ℕ) → m ≤ markAfter wide m
-unfolding markAfter alignedMark
-mark-grows wide m = omega arith
+pub mark_grows : (wide : Bool) (m : ℕ) → m ≤ mark_after wide m
+unfolding mark_after aligned_mark
+mark_grows wide m = omega arith
 
 -- by the word size
 module _ (m : ℕ) where
-  pub mark-narrow : markAfter false m ≡ m + 2
-  unfolding markAfter alignedMark padAt width_of
-  mark-narrow = omega arith
+  pub mark_narrow : mark_after false m ≡ m + 2
+  unfolding mark_after aligned_mark pad_at width_of
+  mark_narrow = omega arith
 
-  pub mark-wide : markAfter true m ≡ alignedMark true m + 4
-  unfolding markAfter width_of
-  mark-wide = refl
+  pub mark_wide : mark_after true m ≡ aligned_mark true m + 4
+  unfolding mark_after width_of
+  mark_wide = refl
 
 -- The aligned mark -------------------------------------------------------------------------------------------------------
 
 module _ (m : ℕ) (even : m % 2 ≡ 0) where
   -- for an even mark the sum is a multiple of 4, not below the mark, and not above any other such
-  pub aligned-multiple : alignedMark true m % 4 ≡ 0
-  unfolding alignedMark padAt
-  aligned-multiple = omega arith
+  pub aligned_multiple : aligned_mark true m % 4 ≡ 0
+  unfolding aligned_mark pad_at
+  aligned_multiple = omega arith
 
-  pub aligned-least : (n : ℕ) → n % 4 ≡ 0 → m ≤ n → alignedMark true m ≤ n
-  unfolding alignedMark padAt
-  aligned-least n h g = omega arith
+  pub aligned_least : (n : ℕ) → n % 4 ≡ 0 → m ≤ n → aligned_mark true m ≤ n
+  unfolding aligned_mark pad_at
+  aligned_least n h g = omega arith
 
   -- and the pad by the sum is the pad by the test: "If the mark modulo 4 is 2, two zero bytes come first"
-  pub pad-as-before : padAt true m ≡ (if eqb (m % 4) 2 then 2 else 0)
-  unfolding padAt
-  pad-as-before =
+  pub pad_as_before : pad_at true m ≡ (if eqb (m % 4) 2 then 2 else 0)
+  unfolding pad_at
+  pad_as_before =
       on (eqb (m % 4) 2)
       (λ e. rw e (eqb-true (m % 4) 2 e))
       (λ e. let h : m % 4 ≡ 2 → ⊥ = eqb-false (m % 4) 2 e in rw e (omega arith))
 
   -- padding keeps the order of even marks
-  pub mark-order : (wide : Bool) (n : ℕ) → m ≤ n → markAfter wide m ≤ markAfter wide n
-  unfolding markAfter alignedMark padAt width_of
-  mark-order false n h = omega arith
-  mark-order true n h = omega arith
+  pub mark_order : (wide : Bool) (n : ℕ) → m ≤ n → mark_after wide m ≤ mark_after wide n
+  unfolding mark_after aligned_mark pad_at width_of
+  mark_order false n h = omega arith
+  mark_order true n h = omega arith
 
-pub aligned-above : (m : ℕ) → m ≤ alignedMark true m
-unfolding alignedMark
-aligned-above m = omega arith
+pub aligned_above : (m : ℕ) → m ≤ aligned_mark true m
+unfolding aligned_mark
+aligned_above m = omega arith
 
-pub mark-even : (wide : Bool) (m : ℕ) → m % 2 ≡ 0 → markAfter wide m % 2 ≡ 0
-unfolding markAfter alignedMark padAt width_of
-mark-even false m h = omega arith
-mark-even true m h = omega arith
+pub mark_even : (wide : Bool) (m : ℕ) → m % 2 ≡ 0 → mark_after wide m % 2 ≡ 0
+unfolding mark_after aligned_mark pad_at width_of
+mark_even false m h = omega arith
+mark_even true m h = omega arith
 
-pub words-even : (wide : Bool) (n m : ℕ) → m % 2 ≡ 0 → markAfterWords wide n m % 2 ≡ 0
-unfolding markAfterWords
-words-even wide zero m h = h
-words-even wide (suc n) m h = mark-even wide (markAfterWords wide n m) (words-even wide n m h)
+pub words_even : (wide : Bool) (n m : ℕ) → m % 2 ≡ 0 → mark_after_words wide n m % 2 ≡ 0
+unfolding mark_after_words
+words_even wide zero m h = h
+words_even wide (suc n) m h = mark_even wide (mark_after_words wide n m) (words_even wide n m h)
 
 -- Words one after the other ----------------------------------------------------------------------------------------------
 
 -- after the first word no pad comes
 word_more : (wide : Bool) (n m : ℕ) → m % 2 ≡ 0
-    → markAfter wide (alignedMark wide m + suc n * width_of wide) ≡ alignedMark wide m + suc (suc n) * width_of wide
-unfolding markAfter alignedMark padAt width_of
+    → mark_after wide (aligned_mark wide m + suc n * width_of wide) ≡ aligned_mark wide m + suc (suc n) * width_of wide
+unfolding mark_after aligned_mark pad_at width_of
 word_more false n m h = omega arith
 word_more true n m h = omega arith
 
-pub words-closed : (wide : Bool) (n m : ℕ) → m % 2 ≡ 0 → 1 ≤ n → markAfterWords wide n m ≡ alignedMark wide m + n * width_of wide
-unfolding markAfterWords markAfter
-words-closed wide zero m h some = absurd (omega arith)
-words-closed wide (suc zero) m h some = omega arith
-words-closed wide (suc (suc n)) m h some = rw (words-closed wide (suc n) m h (omega arith)) (word_more wide n m h)
+pub words_closed : (wide : Bool) (n m : ℕ) → m % 2 ≡ 0 → 1 ≤ n → mark_after_words wide n m ≡ aligned_mark wide m + n * width_of wide
+unfolding mark_after_words mark_after
+words_closed wide zero m h some = absurd (omega arith)
+words_closed wide (suc zero) m h some = omega arith
+words_closed wide (suc (suc n)) m h some = rw (words_closed wide (suc n) m h (omega arith)) (word_more wide n m h)
 
 -- What is stored ---------------------------------------------------------------------------------------------------------
 
-bytes-length : (wide : Bool) (v : ℕ) → length (bytes_of wide v) ≡ width_of wide
+bytes_length : (wide : Bool) (v : ℕ) → length (bytes_of wide v) ≡ width_of wide
 unfolding width_of
-bytes-length true v = refl
-bytes-length false v = refl
+bytes_length true v = refl
+bytes_length false v = refl
 
-pub stored-length : (wide : Bool) (v m : ℕ) (buffer : List ℕ) → length (stored wide v m buffer) ≡ length buffer
+pub stored_length : (wide : Bool) (v m : ℕ) (buffer : List ℕ) → length (stored wide v m buffer) ≡ length buffer
 unfolding stored
-stored-length wide v m buffer = length-sets buffer m (replicate (padAt wide m) 0 ++ bytes_of wide v)
+stored_length wide v m buffer = length-sets buffer m (replicate (pad_at wide m) 0 ++ bytes_of wide v)
 
-pub stored-beyond : (wide : Bool) (v m : ℕ) (buffer : List ℕ) (i : ℕ)
-    → markAfter wide m ≤ i → get_or (stored wide v m buffer) i 0 ≡ get_or buffer i 0
-unfolding stored markAfter alignedMark
-stored-beyond wide v m buffer i h =
-    sets-other buffer m (replicate (padAt wide m) 0 ++ bytes_of wide v) i
+pub stored_beyond : (wide : Bool) (v m : ℕ) (buffer : List ℕ) (i : ℕ)
+    → mark_after wide m ≤ i → get_or (stored wide v m buffer) i 0 ≡ get_or buffer i 0
+unfolding stored mark_after aligned_mark
+stored_beyond wide v m buffer i h =
+    sets_other buffer m (replicate (pad_at wide m) 0 ++ bytes_of wide v) i
     (λ _. omega (
       arith,
-      length-append (replicate (padAt wide m) 0) (bytes_of wide v),
-      length-replicate {A = ℕ} (padAt wide m) 0,
-      bytes-length wide v,
+      length-append (replicate (pad_at wide m) 0) (bytes_of wide v),
+      length-replicate {A = ℕ} (pad_at wide m) 0,
+      bytes_length wide v,
     ))
 
-pub stored-narrow : (v m : ℕ) (buffer : List ℕ) → stored false v m buffer ≡ sets buffer m (shortBytes v)
-unfolding stored padAt
-stored-narrow v m buffer = refl
+pub stored_narrow : (v m : ℕ) (buffer : List ℕ) → stored false v m buffer ≡ sets buffer m (short_bytes v)
+unfolding stored pad_at
+stored_narrow v m buffer = refl
 
 -- a word of 24 bits over four zeros at the mark
-pub stored-over : (v m : ℕ) (buffer : List ℕ) → sets (sets buffer m (longBytes 0)) (alignedMark true m) (longBytes v) ≡ stored true v m buffer
-unfolding stored alignedMark padAt
-stored-over v m buffer = zeros-left buffer m 4 (m % 4) (longBytes v) (omega arith) (omega arith)
+pub stored_over : (v m : ℕ) (buffer : List ℕ) → sets (sets buffer m (long_bytes 0)) (aligned_mark true m) (long_bytes v) ≡ stored true v m buffer
+unfolding stored aligned_mark pad_at
+stored_over v m buffer = zeros_left buffer m 4 (m % 4) (long_bytes v) (omega arith) (omega arith)
 
-pub stored-below : (wide : Bool) (v m : ℕ) (buffer : List ℕ) (i : ℕ)
+pub stored_below : (wide : Bool) (v m : ℕ) (buffer : List ℕ) (i : ℕ)
     → i < m → get_or (stored wide v m buffer) i 0 ≡ get_or buffer i 0
 unfolding stored
-stored-below wide v m buffer i h = sets-other buffer m (replicate (padAt wide m) 0 ++ bytes_of wide v) i (λ g. absurd (omega arith))
+stored_below wide v m buffer i h = sets_other buffer m (replicate (pad_at wide m) 0 ++ bytes_of wide v) i (λ g. absurd (omega arith))

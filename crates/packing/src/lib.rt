@@ -1,8 +1,8 @@
 // Packing: fill marks, and the bytes of words and literals in the host's buffers.
 ghost use Rattle.std.specs.Prelude.{◌≡◌, true, ◌+◌, ◌%◌, ◌^◌, ◌<◌, ◌≤◌, length};
 ghost use Rattle.std.proofs.lemmas.List.Edits.{sets};
-ghost use Rattle.base.specs.Bytes.{longBytes};
-ghost use Rattle.packing.specs.Packing.{alignedMark, width_of, markAfter, markAfterWords, stored, word_at};
+ghost use Rattle.base.specs.Bytes.{long_bytes};
+ghost use Rattle.packing.specs.Packing.{aligned_mark, width_of, mark_after, mark_after_words, stored, word_at};
 
 // The two fill marks: the bytes used so far of the incoming and of the outgoing buffer.
 #[derive(Drop)]
@@ -20,7 +20,7 @@ pub fn width_of(wide: bool) -> usize
 // Where a word goes, behind its pad. Every mark is below 2^63: it counts bytes of a buffer.
 pub fn aligned_mark(wide: bool, mark: usize) -> usize
     requires { mark < 2 ^ 63 }
-    ensures { (result ≡ alignedMark wide mark) × (result ≤ mark + 3) }
+    ensures { (result ≡ aligned_mark wide mark) × (result ≤ mark + 3) }
 {
     if wide { mark + mark % 4 } else { mark }
 }
@@ -28,7 +28,7 @@ pub fn aligned_mark(wide: bool, mark: usize) -> usize
 // The mark after one word. Every mark is below 2^63: it counts bytes of a buffer.
 pub fn mark_after(wide: bool, mark: usize) -> usize
     requires { mark < 2 ^ 63 }
-    ensures { (result ≡ markAfter wide mark) × (result ≤ mark + 7) }
+    ensures { (result ≡ mark_after wide mark) × (result ≤ mark + 7) }
 {
     aligned_mark(wide, mark) + width_of(wide)
 }
@@ -37,7 +37,7 @@ pub fn mark_after(wide: bool, mark: usize) -> usize
 // of at most 2^32 words each.
 pub fn mark_after_words(wide: bool, words: u64, mark: u64) -> u64
     requires { (mark ≤ 2 ^ 62) × ((words ≤ 2 ^ 32) × (mark % 2 ≡ 0)) }
-    ensures { result ≡ markAfterWords wide words mark }
+    ensures { result ≡ mark_after_words wide words mark }
 {
     if wide {
         if words == 0 {
@@ -51,8 +51,8 @@ pub fn mark_after_words(wide: bool, words: u64, mark: u64) -> u64
 // Makes a buffer ready for a 24-bit word or a literal at the mark: where it goes, and four zero bytes at the mark. Those of them that are no pad lie
 // where the word's bytes go, so that nothing here depends on the mark's remainder.
 pub fn pad(buffer: &mut [u8], mark: usize) -> usize
-    requires { markAfter true mark ≤ length buffer.old }
-    ensures { (result ≡ alignedMark true mark) × (buffer.new ≡ sets buffer.old mark (longBytes 0)) }
+    requires { mark_after true mark ≤ length buffer.old }
+    ensures { (result ≡ aligned_mark true mark) × (buffer.new ≡ sets buffer.old mark (long_bytes 0)) }
 {
     let to = aligned_mark(true, mark);
     base::put_long(buffer, mark, 0);
@@ -61,7 +61,7 @@ pub fn pad(buffer: &mut [u8], mark: usize) -> usize
 
 // A word or literal at the mark, behind its pad. The room is there: no mark passes B, and admission holds B against the buffer.
 pub fn store(buffer: &mut [u8], mark: usize, wide: bool, v: u32)
-    requires { markAfter wide mark ≤ length buffer.old }
+    requires { mark_after wide mark ≤ length buffer.old }
     ensures { buffer.new ≡ stored wide v mark buffer.old }
 {
     if wide {

@@ -8,101 +8,101 @@ use native.Mathlib.Omega.{arith}
 use lib.Dec.{leb, ltb}
 use borrow.Author.Tests.{ltb-true, ltb-false, leb-true, leb-false, le-leb, lt-leb}
 use Rattle.base.specs.Checks.{if◌then◌else◌}
-use Rattle.qmodes.specs.Scan.{stations, positions, afterDone, afterOther}
+use Rattle.qmodes.specs.Scan.{stations, positions, after_done, after_other}
 use Rattle.qmodes.specs.declared.modes.QMode.TheVariants.{Scan}
 use Rattle.qmodes.specs.declared.scan.ScanPosition.{ScanPosition}
 use Rattle.qmodes.specs.declared.scan.Moved.{Moved}
 use Rattle.qmodes.specs.declared.scan.Moved.TheVariants.{At, RanOff}
-use Rattle.qmodes.specs.Modes.{ranOff, reached, mostLeft}
+use Rattle.qmodes.specs.Modes.{ran_off, reached, most_left}
 
 -- the outcomes of a step to the next station, and of a step of the subaddress
 pub data OtherCase (p : ScanPosition) : Moved → Type 0 where
-  next-station : p.station < 23 → OtherCase p (At (record { station = p.station + 1; subaddress = 0 }))
-  runs-off : 23 ≤ p.station → OtherCase p RanOff
+  next_station : p.station < 23 → OtherCase p (At (record { station = p.station + 1; subaddress = 0 }))
+  runs_off : 23 ≤ p.station → OtherCase p RanOff
 
 pub data DoneCase (p : ScanPosition) : Moved → Type 0 where
-  next-subaddress : p.subaddress < 15 → DoneCase p (At (record { station = p.station; subaddress = p.subaddress + 1 }))
-  as-other : 15 ≤ p.subaddress → {x : Moved} → OtherCase p x → DoneCase p x
+  next_subaddress : p.subaddress < 15 → DoneCase p (At (record { station = p.station; subaddress = p.subaddress + 1 }))
+  as_other : 15 ≤ p.subaddress → {x : Moved} → OtherCase p x → DoneCase p x
 
-pub other-case : (p : ScanPosition) → OtherCase p (afterOther p)
-unfolding afterOther
-other-case p = go (ltb p.station 23) refl
+pub other_case : (p : ScanPosition) → OtherCase p (after_other p)
+unfolding after_other
+other_case p = go (ltb p.station 23) refl
   where
     go : (t : Bool) → ltb p.station 23 ≡ t → OtherCase p (if t then At (record { station = p.station + 1; subaddress = 0 }) else RanOff)
-    go true e = next-station (ltb-true _ _ e)
-    go false e = runs-off (ltb-false _ _ e)
+    go true e = next_station (ltb-true _ _ e)
+    go false e = runs_off (ltb-false _ _ e)
 
-pub done-case : (p : ScanPosition) → DoneCase p (afterDone p)
-unfolding afterDone
-done-case p = go (ltb p.subaddress 15) refl
+pub done_case : (p : ScanPosition) → DoneCase p (after_done p)
+unfolding after_done
+done_case p = go (ltb p.subaddress 15) refl
   where
     go : (t : Bool) → ltb p.subaddress 15 ≡ t
-        → DoneCase p (if t then At (record { station = p.station; subaddress = p.subaddress + 1 }) else afterOther p)
-    go true e = next-subaddress (ltb-true _ _ e)
-    go false e = as-other (ltb-false _ _ e) (other-case p)
+        → DoneCase p (if t then At (record { station = p.station; subaddress = p.subaddress + 1 }) else after_other p)
+    go true e = next_subaddress (ltb-true _ _ e)
+    go false e = as_other (ltb-false _ _ e) (other_case p)
 
 -- the most still possible of a scan with no tries, by cases
-pub scan-within : (limit : ℕ) (p : ScanPosition) (left rest : ℕ) → left ≤ positions p
-    → mostLeft limit Scan p left 0 rest ≡ min (positions p) (left - 1 + stations p) + rest
-unfolding mostLeft
-scan-within limit p left rest h = simp (le-leb _ _ h) (omega arith)
+pub scan_within : (limit : ℕ) (p : ScanPosition) (left rest : ℕ) → left ≤ positions p
+    → most_left limit Scan p left 0 rest ≡ min (positions p) (left - 1 + stations p) + rest
+unfolding most_left
+scan_within limit p left rest h = simp (le-leb _ _ h) (omega arith)
 
-pub scan-over : (limit : ℕ) (p : ScanPosition) (left rest : ℕ) → positions p < left → mostLeft limit Scan p left 0 rest ≡ positions p
-unfolding mostLeft
-scan-over limit p left rest h = simp (lt-leb _ _ h)
+pub scan_over : (limit : ℕ) (p : ScanPosition) (left rest : ℕ) → positions p < left → most_left limit Scan p left 0 rest ≡ positions p
+unfolding most_left
+scan_over limit p left rest h = simp (lt-leb _ _ h)
 
 -- at least one position or one answer is left
-pub scan-some : (limit : ℕ) (p : ScanPosition) (left rest : ℕ) → p.station ≤ 23 → p.subaddress ≤ 15 → 1 ≤ left
-    → 1 ≤ mostLeft limit Scan p left 0 rest
+pub scan_some : (limit : ℕ) (p : ScanPosition) (left rest : ℕ) → p.station ≤ 23 → p.subaddress ≤ 15 → 1 ≤ left
+    → 1 ≤ most_left limit Scan p left 0 rest
 unfolding positions stations
-scan-some limit p left rest hn ha hl = go (leb left (positions p)) refl
+scan_some limit p left rest hn ha hl = go (leb left (positions p)) refl
   where
-    go : (t : Bool) → leb left (positions p) ≡ t → 1 ≤ mostLeft limit Scan p left 0 rest
-    go true e = omega (arith, scan-within limit p left rest (leb-true _ _ e))
-    go false e = omega (arith, scan-over limit p left rest (leb-false _ _ e))
+    go : (t : Bool) → leb left (positions p) ≡ t → 1 ≤ most_left limit Scan p left 0 rest
+    go true e = omega (arith, scan_within limit p left rest (leb-true _ _ e))
+    go false e = omega (arith, scan_over limit p left rest (leb-false _ _ e))
 
 -- a step from (p, left) to (p', left'), where both fall as a scan's answer has them fall
 module _ (limit : ℕ) (p p' : ScanPosition) (left left' rest : ℕ) (hn : p.station ≤ 23) (ha : p.subaddress ≤ 15) (hl : 1 ≤ left') where
   -- P drops by at least one, the words left by at most one and not more than P, and the bound n - 1 + S by at least one
   falls : positions p' + 1 ≤ positions p → left' ≤ left → left' - 1 + stations p' + 1 ≤ left - 1 + stations p
       → (positions p < left → positions p' < left')
-      → mostLeft limit Scan p' left' 0 rest + 1 ≤ mostLeft limit Scan p left 0 rest
+      → most_left limit Scan p' left' 0 rest + 1 ≤ most_left limit Scan p left 0 rest
   falls hp hll hs over = go (leb left (positions p)) refl (leb left' (positions p')) refl
     where
       go : (t : Bool) → leb left (positions p) ≡ t → (u : Bool) → leb left' (positions p') ≡ u
-          → mostLeft limit Scan p' left' 0 rest + 1 ≤ mostLeft limit Scan p left 0 rest
-      go true e true e' = omega (arith, scan-within limit p left rest (leb-true _ _ e), scan-within limit p' left' rest (leb-true _ _ e'))
+          → most_left limit Scan p' left' 0 rest + 1 ≤ most_left limit Scan p left 0 rest
+      go true e true e' = omega (arith, scan_within limit p left rest (leb-true _ _ e), scan_within limit p' left' rest (leb-true _ _ e'))
       go true e false e' = omega (
         arith,
-        scan-within limit p left rest (leb-true _ _ e),
-        scan-over limit p' left' rest
+        scan_within limit p left rest (leb-true _ _ e),
+        scan_over limit p' left' rest
             (leb-false _ _ e'),
         leb-false left' (positions p') e',
       )
       go false e true e' = omega (arith, over (leb-false left (positions p) e), leb-true left' (positions p') e')
-      go false e false e' = omega (arith, scan-over limit p left rest (leb-false _ _ e), scan-over limit p' left' rest (leb-false _ _ e'))
+      go false e false e' = omega (arith, scan_over limit p left rest (leb-false _ _ e), scan_over limit p' left' rest (leb-false _ _ e'))
 
 -- a done word with words left after it, and a miss, where the scan does not leave
-pub done-falls : (limit : ℕ) (p : ScanPosition) (left rest : ℕ) → p.station ≤ 23 → p.subaddress ≤ 15 → 2 ≤ left → {x : Moved} → DoneCase p x
-    → ranOff x ≡ false
-    → mostLeft limit Scan (reached p x) (left - 1) 0 rest + 1 ≤ mostLeft limit Scan p left 0 rest
+pub done_falls : (limit : ℕ) (p : ScanPosition) (left rest : ℕ) → p.station ≤ 23 → p.subaddress ≤ 15 → 2 ≤ left → {x : Moved} → DoneCase p x
+    → ran_off x ≡ false
+    → most_left limit Scan (reached p x) (left - 1) 0 rest + 1 ≤ most_left limit Scan p left 0 rest
 unfolding positions stations
-done-falls limit p left rest hn ha hl (next-subaddress h) e =
+done_falls limit p left rest hn ha hl (next_subaddress h) e =
     falls limit p (record { station = p.station; subaddress = p.subaddress + 1 }) left (left - 1) rest hn ha (omega arith) (omega arith)
     (omega arith) (omega arith) (λ k. omega arith)
-done-falls limit p left rest hn ha hl (as-other h (next-station g)) e =
+done_falls limit p left rest hn ha hl (as_other h (next_station g)) e =
     falls limit p (record { station = p.station + 1; subaddress = 0 }) left (left - 1) rest hn ha (omega arith) (omega arith) (omega arith)
     (omega arith) (λ k. omega arith)
-done-falls limit p left rest hn ha hl (as-other h (runs-off g)) e = absurd (true≢false e)
+done_falls limit p left rest hn ha hl (as_other h (runs_off g)) e = absurd (true≢false e)
 
-pub other-falls : (limit : ℕ) (p : ScanPosition) (left rest : ℕ) → p.station ≤ 23 → p.subaddress ≤ 15 → 1 ≤ left → {x : Moved} → OtherCase p x
-    → ranOff x ≡ false
-    → mostLeft limit Scan (reached p x) left 0 rest + 1 ≤ mostLeft limit Scan p left 0 rest
+pub other_falls : (limit : ℕ) (p : ScanPosition) (left rest : ℕ) → p.station ≤ 23 → p.subaddress ≤ 15 → 1 ≤ left → {x : Moved} → OtherCase p x
+    → ran_off x ≡ false
+    → most_left limit Scan (reached p x) left 0 rest + 1 ≤ most_left limit Scan p left 0 rest
 unfolding positions stations
-other-falls limit p left rest hn ha hl (next-station g) e =
+other_falls limit p left rest hn ha hl (next_station g) e =
     falls limit p (record { station = p.station + 1; subaddress = 0 }) left left rest hn ha hl (omega arith) (omega arith) (omega arith)
     (λ k. omega arith)
-other-falls limit p left rest hn ha hl (runs-off g) e = absurd (true≢false e)
+other_falls limit p left rest hn ha hl (runs_off g) e = absurd (true≢false e)
 
 -- the position stays in the range that the record's check allows
 pub record InRange (from p : ScanPosition) : Type 0 where
@@ -110,30 +110,30 @@ pub record InRange (from p : ScanPosition) : Type 0 where
   pub subaddress : p.subaddress ≤ 15
   pub onward : from.station * 16 + from.subaddress ≤ p.station * 16 + p.subaddress
 
-pub other-range : (from p : ScanPosition) → InRange from p → {x : Moved} → OtherCase p x → ranOff x ≡ false → InRange from (reached p x)
-other-range from p r (next-station g) e = record { station = omega arith; subaddress = omega arith; onward = omega arith }
-other-range from p r (runs-off g) e = absurd (true≢false e)
+pub other_range : (from p : ScanPosition) → InRange from p → {x : Moved} → OtherCase p x → ran_off x ≡ false → InRange from (reached p x)
+other_range from p r (next_station g) e = record { station = omega arith; subaddress = omega arith; onward = omega arith }
+other_range from p r (runs_off g) e = absurd (true≢false e)
 
-pub done-range : (from p : ScanPosition) → InRange from p → {x : Moved} → DoneCase p x → ranOff x ≡ false → InRange from (reached p x)
-done-range from p r (next-subaddress h) e = record { station = r.station; subaddress = omega arith; onward = omega arith }
-done-range from p r (as-other h s) e = other-range from p r s e
+pub done_range : (from p : ScanPosition) → InRange from p → {x : Moved} → DoneCase p x → ran_off x ≡ false → InRange from (reached p x)
+done_range from p r (next_subaddress h) e = record { station = r.station; subaddress = omega arith; onward = omega arith }
+done_range from p r (as_other h s) e = other_range from p r s e
 
 -- the last word of a scan: one operation and the rest at least; exactly that at station 23
-pub scan-last : (limit : ℕ) (from p : ScanPosition) (left rest : ℕ) → InRange from p → left ≡ 1 → rest + 1 ≤ mostLeft limit Scan p left 0 rest
+pub scan_last : (limit : ℕ) (from p : ScanPosition) (left rest : ℕ) → InRange from p → left ≡ 1 → rest + 1 ≤ most_left limit Scan p left 0 rest
 unfolding positions stations
-scan-last limit from p left rest h e = omega
-    (arith, scan-within limit p left rest (omega (arith, h.station, h.subaddress)), h.station, h.subaddress)
+scan_last limit from p left rest h e = omega
+    (arith, scan_within limit p left rest (omega (arith, h.station, h.subaddress)), h.station, h.subaddress)
 
 -- The slowest scan -------------------------------------------------------------------------------------------------------
 
 pub record Exactly (limit : ℕ) (p p' : ScanPosition) (left left' rest : ℕ) : Type 0 where
   pub room : left' ≤ positions p'
-  pub exact : mostLeft limit Scan p' left' 0 rest + 1 ≡ mostLeft limit Scan p left 0 rest
+  pub exact : most_left limit Scan p' left' 0 rest + 1 ≡ most_left limit Scan p left 0 rest
 
 exactly : (limit : ℕ) (p p' : ScanPosition) (left left' rest : ℕ) → left ≤ positions p → left' ≤ positions p'
     → min (positions p') (left' - 1 + stations p') + 1 ≡ min (positions p) (left - 1 + stations p) → Exactly limit p p' left left' rest
 exactly limit p p' left left' rest h h' e =
-    record { room = h'; exact = omega (arith, scan-within limit p left rest h, scan-within limit p' left' rest h') }
+    record { room = h'; exact = omega (arith, scan_within limit p left rest h, scan_within limit p' left' rest h') }
 
 -- P and S without differences: 16 N + A + P = 384, N + S = 24
 sums : (p : ScanPosition) → p.station ≤ 23 → p.subaddress ≤ 15
@@ -142,10 +142,10 @@ unfolding positions stations
 sums p hn ha = omega arith
 
 -- a miss before station 23, at subaddress 15 with a position to spare, or at the last word
-pub miss-exact : (limit : ℕ) (from p : ScanPosition) (left rest : ℕ) → InRange from p → 1 ≤ left → left ≤ positions p
+pub miss_exact : (limit : ℕ) (from p : ScanPosition) (left rest : ℕ) → InRange from p → 1 ≤ left → left ≤ positions p
     → p.station < 23 → ((p.subaddress ≡ 15) × (left < positions p)) ⊎ (left ≡ 1) → {x : Moved} → OtherCase p x
-    → (ranOff x ≡ false) × Exactly limit p (reached p x) left left rest
-miss-exact limit from p left rest r some room hn c (next-station g) =
+    → (ran_off x ≡ false) × Exactly limit p (reached p x) left left rest
+miss_exact limit from p left rest r some room hn c (next_station g) =
     let p' : ScanPosition = record { station = p.station + 1; subaddress = 0 } in
     let σ = sums p r.station r.subaddress in
     let σ' = sums p' (omega arith) (omega arith) in
@@ -167,29 +167,29 @@ miss-exact limit from p left rest r some room hn c (next-station g) =
         (left - 1 + stations (record { station = p.station + 1; subaddress = 0 })) + 1 ≡ min (positions p) (left - 1 + stations p)
     same (inl h) σ σ' = omega arith
     same (inr h) σ σ' = omega (arith, r.subaddress)
-miss-exact limit from p left rest r some room hn d (runs-off g) = absurd (omega arith)
+miss_exact limit from p left rest r some room hn d (runs_off g) = absurd (omega arith)
 
 -- a done word elsewhere, with words left after it
-pub done-exact : (limit : ℕ) (from p : ScanPosition) (left rest : ℕ) → InRange from p → 2 ≤ left → left ≤ positions p
+pub done_exact : (limit : ℕ) (from p : ScanPosition) (left rest : ℕ) → InRange from p → 2 ≤ left → left ≤ positions p
     → (p.station < 23 → p.subaddress ≡ 15 → left < positions p → ⊥) → {x : Moved} → DoneCase p x
-    → (ranOff x ≡ false) × Exactly limit p (reached p x) left (left - 1) rest
-done-exact limit from p left rest r two room not-miss (next-subaddress h) =
+    → (ran_off x ≡ false) × Exactly limit p (reached p x) left (left - 1) rest
+done_exact limit from p left rest r two room not-miss (next_subaddress h) =
     let p' : ScanPosition = record { station = p.station; subaddress = p.subaddress + 1 } in
     let σ = sums p r.station r.subaddress in
     let σ' = sums p' r.station (omega arith) in
     (refl, exactly limit p p' left (left - 1) rest room (omega arith) (omega arith))
-done-exact limit from p left rest r two room not-miss (as-other h (next-station g)) =
+done_exact limit from p left rest r two room not-miss (as_other h (next_station g)) =
     let p' : ScanPosition = record { station = p.station + 1; subaddress = 0 } in
     let σ = sums p r.station r.subaddress in
     let σ' = sums p' (omega arith) (omega arith) in
     let full : ¬ (left < positions p) = not-miss g (omega (arith, r.subaddress)) in
     (refl, exactly limit p p' left (left - 1) rest room (omega (arith, r.subaddress)) (omega (arith, r.subaddress)))
-done-exact limit from p left rest r two room not-miss (as-other h (runs-off g)) =
+done_exact limit from p left rest r two room not-miss (as_other h (runs_off g)) =
     absurd (omega (arith, sums p r.station r.subaddress, r.station))
 
 -- the last word, done at station 23
-pub last-exact : (limit : ℕ) (from p : ScanPosition) (left rest : ℕ) → InRange from p → left ≡ 1 → 23 ≤ p.station
-    → rest + 1 ≡ mostLeft limit Scan p left 0 rest
+pub last_exact : (limit : ℕ) (from p : ScanPosition) (left rest : ℕ) → InRange from p → left ≡ 1 → 23 ≤ p.station
+    → rest + 1 ≡ most_left limit Scan p left 0 rest
 unfolding positions stations
-last-exact limit from p left rest r e hn =
-    omega (arith, scan-within limit p left rest (omega (arith, r.station, r.subaddress)), r.station, r.subaddress)
+last_exact limit from p left rest r e hn =
+    omega (arith, scan_within limit p left rest (omega (arith, r.station, r.subaddress)), r.station, r.subaddress)

@@ -2,7 +2,7 @@
 -- W. The rules are those of the pages Modes and Scan; other causes aside, which end a run sooner.
 use Rattle.std.specs.Prelude.{ℕ, ◌+◌, ◌-◌, ◌*◌, ◌≤◌, min, ◌≡◌, Bool, true, false, ◌||◌, List, [], ◌∷◌, eqb, length}
 use Rattle.qmodes.specs.Scan.{stations, positions}
-use Rattle.qmodes.specs.Modes.{done, leftAfter, spent, scanLeaves, triesAfter, positionAfter}
+use Rattle.qmodes.specs.Modes.{done, left_after, spent, scan_leaves, tries_after, position_after}
 use Rattle.qmodes.specs.declared.modes.QMode.{QMode}
 use Rattle.qmodes.specs.declared.modes.QMode.TheVariants.{Repeat, Scan}
 use Rattle.qmodes.specs.declared.modes.Answer.{Answer}
@@ -13,8 +13,8 @@ use Rattle.qmodes.specs.declared.scan.ScanPosition.{ScanPosition}
 unfoldable pub over : ℕ → QMode → List Answer → ScanPosition → ℕ → ℕ → Bool
 over limit q [] p left tries = false
 over limit q (a ∷ answers) p left tries =
-    eqb (leftAfter q (done q a) left) 0 || (spent limit q a tries || (scanLeaves q a p left
-    || over limit q answers (positionAfter q (done q a) p) (leftAfter q (done q a) left) (triesAfter q (done q a) tries)))
+    eqb (left_after q (done q a) left) 0 || (spent limit q a tries || (scan_leaves q a p left
+    || over limit q answers (position_after q (done q a) p) (left_after q (done q a) left) (tries_after q (done q a) tries)))
 
 -- "scan min(P, n − 1 + S)": n words from N, A, with N at most 23
 abbrev pub ScanEnds : Type 0

@@ -14,13 +14,13 @@ unfoldable pub positions : ScanPosition → ℕ
 positions p = (23 - p.station) * 16 + 16 - p.subaddress
 
 -- "any other answer goes to subaddress 0 of the next station"
-unfoldable pub afterOther : ScanPosition → Moved
-afterOther p = if ltb p.station 23 then At (record { station = p.station + 1; subaddress = 0 }) else RanOff
+unfoldable pub after_other : ScanPosition → Moved
+after_other p = if ltb p.station 23 then At (record { station = p.station + 1; subaddress = 0 }) else RanOff
 
 -- "a done word steps A by 1, from 15 to subaddress 0 of the next station"
-unfoldable pub afterDone : ScanPosition → Moved
-afterDone p = if ltb p.subaddress 15 then At (record { station = p.station; subaddress = p.subaddress + 1 }) else afterOther p
+unfoldable pub after_done : ScanPosition → Moved
+after_done p = if ltb p.subaddress 15 then At (record { station = p.station; subaddress = p.subaddress + 1 }) else after_other p
 
 -- where a scan goes after an answer
-abbrev pub afterAnswer : Bool → ScanPosition → Moved
-afterAnswer isDone p = if isDone then afterDone p else afterOther p
+abbrev pub after_answer : Bool → ScanPosition → Moved
+after_answer is_done p = if is_done then after_done p else after_other p

@@ -1,9 +1,9 @@
 // What each Q-mode does: one question a function, one arm a Q-mode. specs/Modes is the same page in symbols.
 ghost use Rattle.std.specs.Prelude.{◌≡◌, ◌+◌, ◌-◌, ◌*◌, ◌^◌, ◌<◌, ◌≤◌, min, leb};
 ghost use Rattle.qmodes.specs.Scan.{stations, positions};
-ghost use Rattle.qmodes.specs.Modes.{worstWords, isScan, done, leftAfter, leaves, spent, scanLeaves, noX, noQInStop, triesAfter, positionAfter, mostLeft, triesFit, samePosition, positionFits};
+ghost use Rattle.qmodes.specs.Modes.{worst_words, is_scan, done, left_after, leaves, spent, scan_leaves, no_x, no_qin_stop, tries_after, position_after, most_left, tries_fit, same_position, position_fits};
 ghost use Rattle.base.specs.Checks.{if◌then◌else◌};
-ghost use Rattle.qmodes.specs.model.Answers.{wordFlags, waitFlags, canWait, wordsAhead, placeAfterWords, placeAfterWait};
+ghost use Rattle.qmodes.specs.model.Answers.{word_flags, wait_flags, can_wait, words_ahead, place_after_words, place_after_wait};
 
 use crate::scan::{Moved, ScanPosition};
 
@@ -28,7 +28,7 @@ pub struct Answer {
 }
 
 pub fn is_scan(q: QMode) -> bool
-    ensures { result ≡ isScan q }
+    ensures { result ≡ is_scan q }
 {
     match q {
         QMode::Stop => false,
@@ -69,7 +69,7 @@ pub fn is_leaving(a: Answer, p: ScanPosition, left: usize) -> bool
 }
 
 pub fn scan_leaves(q: QMode, a: Answer, p: ScanPosition, left: usize) -> bool
-    ensures { result ≡ scanLeaves q a p left }
+    ensures { result ≡ scan_leaves q a p left }
 {
     match q {
         QMode::Stop => false,
@@ -93,7 +93,7 @@ pub fn is_spent(limit: usize, q: QMode, a: Answer, tries: usize) -> bool
 }
 
 pub fn has_no_x(q: QMode, ad: bool, a: Answer) -> bool
-    ensures { result ≡ noX q ad a }
+    ensures { result ≡ no_x q ad a }
 {
     match q {
         QMode::Stop => !a.x && !ad,
@@ -104,7 +104,7 @@ pub fn has_no_x(q: QMode, ad: bool, a: Answer) -> bool
 }
 
 pub fn has_no_q(q: QMode, block: bool, a: Answer) -> bool
-    ensures { result ≡ noQInStop q block a }
+    ensures { result ≡ no_qin_stop q block a }
 {
     match q {
         QMode::Stop => !a.q && !block,
@@ -117,7 +117,7 @@ pub fn has_no_q(q: QMode, block: bool, a: Answer) -> bool
 // A waiting instruction has words left.
 pub fn left_after(q: QMode, moves: bool, left: usize) -> usize
     requires { 1 ≤ left }
-    ensures { result ≡ leftAfter q moves left }
+    ensures { result ≡ left_after q moves left }
 {
     if moves {
         return left - 1;
@@ -133,7 +133,7 @@ pub fn left_after(q: QMode, moves: bool, left: usize) -> usize
 // Tries stay below R, and R below 2^16.
 pub fn tries_after(q: QMode, moves: bool, tries: usize) -> usize
     requires { tries < 2 ^ 16 }
-    ensures { result ≡ triesAfter q moves tries }
+    ensures { result ≡ tries_after q moves tries }
 {
     match q {
         QMode::Stop => 0,
@@ -149,7 +149,7 @@ pub fn tries_after(q: QMode, moves: bool, tries: usize) -> usize
 }
 
 pub fn position_after(q: QMode, moves: bool, p: ScanPosition) -> ScanPosition
-    ensures { result ≡ positionAfter q moves p }
+    ensures { result ≡ position_after q moves p }
 {
     match q {
         QMode::Stop => p,
@@ -166,7 +166,7 @@ pub fn position_after(q: QMode, moves: bool, p: ScanPosition) -> ScanPosition
 }
 
 pub fn tries_fit(limit: usize, q: QMode, tries: usize) -> bool
-    ensures { result ≡ triesFit limit q tries }
+    ensures { result ≡ tries_fit limit q tries }
 {
     match q {
         QMode::Stop => tries == 0,
@@ -177,7 +177,7 @@ pub fn tries_fit(limit: usize, q: QMode, tries: usize) -> bool
 }
 
 fn is_same_position(p: ScanPosition, from: ScanPosition) -> bool
-    ensures { result ≡ samePosition p from }
+    ensures { result ≡ same_position p from }
 {
     if p.station == from.station {
         return p.subaddress == from.subaddress;
@@ -193,7 +193,7 @@ fn place_of(p: ScanPosition) -> u32
 }
 
 pub fn position_fits(q: QMode, from: ScanPosition, p: ScanPosition) -> bool
-    ensures { result ≡ positionFits q from p }
+    ensures { result ≡ position_fits q from p }
 {
     match q {
         QMode::Stop => is_same_position(p, from),
@@ -214,7 +214,7 @@ pub fn position_fits(q: QMode, from: ScanPosition, p: ScanPosition) -> bool
 // W of n words. R and n are the list's: below 2^16 and at most 2^32.
 pub fn worst_words(limit: u64, q: QMode, p: ScanPosition, words: u64) -> u64
     requires { (limit < 2 ^ 16) × (words ≤ 2 ^ 32) }
-    ensures { (result ≡ worstWords limit q p words) × (result ≤ 2 ^ 48) }
+    ensures { (result ≡ worst_words limit q p words) × (result ≤ 2 ^ 48) }
 {
     match q {
         QMode::Stop => words,
@@ -250,7 +250,7 @@ pub fn most_left(
     rest: u64,
 ) -> u64
     requires { (limit < 2 ^ 16) × ((left ≤ 2 ^ 16) × (rest ≤ 2 ^ 60)) }
-    ensures { result ≡ mostLeft limit q p left tries rest }
+    ensures { result ≡ most_left limit q p left tries rest }
 {
     let words = base::u64_of_size(left);
     match q {
@@ -270,7 +270,7 @@ const LAST: usize = 0x17F;
 
 // The flags that make an answer a word: of these just Q and X are set.
 pub fn word_flags(q: QMode, ad: bool) -> u8
-    ensures { result ≡ wordFlags q ad }
+    ensures { result ≡ word_flags q ad }
 {
     if ad {
         match q {
@@ -291,7 +291,7 @@ pub fn word_flags(q: QMode, ad: bool) -> u8
 
 // The flags by which an answer that is no word is no cause: of these just X is set.
 pub fn wait_flags(q: QMode, ad: bool) -> u8
-    ensures { result ≡ waitFlags q ad }
+    ensures { result ≡ wait_flags q ad }
 {
     match q {
         QMode::Stop => if ad { 0x00 } else { 0x36 },
@@ -304,7 +304,7 @@ pub fn wait_flags(q: QMode, ad: bool) -> u8
 // Whether there is a next try after an answer that is no word. Tries are below R.
 pub fn can_wait(q: QMode, limit: usize, tries: usize, position: usize) -> bool
     requires { tries < 2 ^ 16 }
-    ensures { result ≡ canWait q limit tries position }
+    ensures { result ≡ can_wait q limit tries position }
 {
     match q {
         QMode::Stop => false,
@@ -317,7 +317,7 @@ pub fn can_wait(q: QMode, limit: usize, tries: usize, position: usize) -> bool
 // How many of the words left can be done one after the other before a scan leaves.
 pub fn words_ahead(q: QMode, position: usize, left: usize) -> usize
     requires { q ≡ QMode.Scan → position ≤ 0x17F }
-    ensures { result ≡ wordsAhead q position left }
+    ensures { result ≡ words_ahead q position left }
 {
     match q {
         QMode::Stop => left,
@@ -333,7 +333,7 @@ pub fn words_ahead(q: QMode, position: usize, left: usize) -> usize
 // The position behind some words. Both are an admitted list's.
 pub fn place_after_words(q: QMode, position: usize, words: usize) -> usize
     requires { (position < 2 ^ 16) × (words < 2 ^ 32) }
-    ensures { result ≡ placeAfterWords q position words }
+    ensures { result ≡ place_after_words q position words }
 {
     match q {
         QMode::Stop => position,
@@ -346,7 +346,7 @@ pub fn place_after_words(q: QMode, position: usize, words: usize) -> usize
 // The position after an answer that is no word.
 pub fn place_after_wait(q: QMode, position: usize) -> usize
     requires { position < 2 ^ 16 }
-    ensures { result ≡ placeAfterWait q position }
+    ensures { result ≡ place_after_wait q position }
 {
     match q {
         QMode::Stop => position,

@@ -1,6 +1,6 @@
 // Scan positions.
 ghost use Rattle.std.specs.Prelude.{◌≡◌};
-ghost use Rattle.qmodes.specs.Scan.{stations, positions, afterOther, afterDone, afterAnswer};
+ghost use Rattle.qmodes.specs.Scan.{stations, positions, after_other, after_done, after_answer};
 ghost use Rattle.qmodes.specs.Modes.{done};
 
 #[derive(Drop)]
@@ -36,7 +36,7 @@ impl ScanPosition {
 
     // After any answer that is no done word. That a scan ends: specs/Ends.
     pub fn after_other(self) -> Moved
-        ensures { result ≡ afterOther self }
+        ensures { result ≡ after_other self }
     {
         let station = self.station;
         if station < 23 {
@@ -50,7 +50,7 @@ impl ScanPosition {
 
     // After a done word. That a scan ends: specs/Ends.
     pub fn after_done(self) -> Moved
-        ensures { result ≡ afterDone self }
+        ensures { result ≡ after_done self }
     {
         let subaddress = self.subaddress;
         if subaddress < 15 {
@@ -63,7 +63,7 @@ impl ScanPosition {
     }
 
     pub fn after_answer(self, done: bool) -> Moved
-        ensures { result ≡ afterAnswer done self }
+        ensures { result ≡ after_answer done self }
     {
         if done {
             return self.after_done();

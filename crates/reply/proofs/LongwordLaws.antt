@@ -4,10 +4,10 @@ use Prim.Native.Nat.{ℕ, ◌+◌, ◌/◌, ◌%◌, ◌^◌, ◌<◌}
 use mathlib.Core.Path.{◌≡◌}
 use mathlib.Core.Bool.{Bool, true, false}
 use native.Mathlib.Omega.{arith}
-use Rattle.base.specs.Bytes.{shortBytes}
+use Rattle.base.specs.Bytes.{short_bytes}
 use Rattle.base.specs.Checks.{if◌then◌else◌}
 use Rattle.qmodes.specs.declared.modes.Answer.{Answer}
-use Rattle.reply.specs.Effect.{longwordOf}
+use Rattle.reply.specs.Effect.{longword_of}
 use Rattle.reply.specs.declared.replies.Reply.TheVariants.{Answered}
 
 abbrev with_flags : ℕ → Bool → Bool → ℕ
@@ -16,33 +16,33 @@ with_flags w x q = w % 2 ^ 24 + (if x then 2 ^ 30 else 0) + (if q then 2 ^ 31 el
 -- a longword with this data, X and Q
 pub record Bits (w : ℕ) (x q : Bool) (v : ℕ) : Type 0 where
   pub below : v < 2 ^ 32
-  pub bits-23-to-0 : v % 2 ^ 24 ≡ w % 2 ^ 24
-  pub bits-29-to-24 : v / 2 ^ 24 % 2 ^ 6 ≡ 0
-  pub bit-30 : v / 2 ^ 30 % 2 ≡ (if x then 1 else 0)
-  pub bit-31 : v / 2 ^ 31 % 2 ≡ (if q then 1 else 0)
+  pub bits_23_to_0 : v % 2 ^ 24 ≡ w % 2 ^ 24
+  pub bits_29_to_24 : v / 2 ^ 24 % 2 ^ 6 ≡ 0
+  pub bit_30 : v / 2 ^ 30 % 2 ≡ (if x then 1 else 0)
+  pub bit_31 : v / 2 ^ 31 % 2 ≡ (if q then 1 else 0)
 
 bits : (w : ℕ) (x q : Bool) → Bits w x q (with_flags w x q)
 bits w true true =
-    record { below = omega arith; bits-23-to-0 = omega arith; bits-29-to-24 = omega arith; bit-30 = omega arith; bit-31 = omega arith }
+    record { below = omega arith; bits_23_to_0 = omega arith; bits_29_to_24 = omega arith; bit_30 = omega arith; bit_31 = omega arith }
 bits w true false =
-    record { below = omega arith; bits-23-to-0 = omega arith; bits-29-to-24 = omega arith; bit-30 = omega arith; bit-31 = omega arith }
+    record { below = omega arith; bits_23_to_0 = omega arith; bits_29_to_24 = omega arith; bit_30 = omega arith; bit_31 = omega arith }
 bits w false true =
-    record { below = omega arith; bits-23-to-0 = omega arith; bits-29-to-24 = omega arith; bit-30 = omega arith; bit-31 = omega arith }
+    record { below = omega arith; bits_23_to_0 = omega arith; bits_29_to_24 = omega arith; bit_30 = omega arith; bit_31 = omega arith }
 bits w false false =
-    record { below = omega arith; bits-23-to-0 = omega arith; bits-29-to-24 = omega arith; bit-30 = omega arith; bit-31 = omega arith }
+    record { below = omega arith; bits_23_to_0 = omega arith; bits_29_to_24 = omega arith; bit_30 = omega arith; bit_31 = omega arith }
 
 -- which bit is which
-pub longword-bits : (a : Answer) → Bits a.word a.x a.q (longwordOf (Answered a))
-longword-bits a = bits a.word a.x a.q
+pub longword_bits : (a : Answer) → Bits a.word a.x a.q (longword_of (Answered a))
+longword_bits a = bits a.word a.x a.q
 
-second-byte : (v : ℕ) → v / 256 % 256 ≡ v % 65536 / 256
-second-byte v = omega arith
+second_byte : (v : ℕ) → v / 256 % 256 ≡ v % 65536 / 256
+second_byte v = omega arith
 
-low-bytes : (w v : ℕ) → v % 65536 ≡ w % 65536 → shortBytes v ≡ shortBytes w
-low-bytes w v e =
+low_bytes : (w v : ℕ) → v % 65536 ≡ w % 65536 → short_bytes v ≡ short_bytes w
+low_bytes w v e =
     let first : v % 256 ≡ w % 256 = omega (arith, e) in
-    rw (first, second-byte v, second-byte w, e)
+    rw (first, second_byte v, second_byte w, e)
 
 -- the two bytes of a 16-bit word are the data's, whatever Q and X
-pub narrow-same : (a : Answer) → shortBytes (longwordOf (Answered a)) ≡ shortBytes a.word
-narrow-same a = low-bytes a.word _ (omega (arith, (longword-bits a).bits-23-to-0))
+pub narrow_same : (a : Answer) → short_bytes (longword_of (Answered a)) ≡ short_bytes a.word
+narrow_same a = low_bytes a.word _ (omega (arith, (longword_bits a).bits_23_to_0))

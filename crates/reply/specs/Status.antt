@@ -2,9 +2,9 @@
 use Rattle.std.specs.Prelude.{ℕ, ◌/◌, ◌^◌, Bool, true, ◌||◌, not, List, [], ◌∷◌}
 use Rattle.std.specs.Int.Bits.{bit_or}
 use Rattle.base.specs.Checks.{if◌then◌else◌}
-use Rattle.camac.specs.Words.{qmodeOf}
+use Rattle.camac.specs.Words.{qmode_of}
 use Rattle.camac.specs.declared.words.Command.{Command}
-use Rattle.qmodes.specs.Modes.{spent, scanLeaves}
+use Rattle.qmodes.specs.Modes.{spent, scan_leaves}
 use Rattle.reply.specs.declared.replies.Reply.{Reply}
 use Rattle.reply.specs.declared.replies.Reply.TheVariants.{Answered, Timeout, NotRecognised, NoSync}
 use Rattle.reply.specs.declared.records.Record.{Record}
@@ -30,9 +30,9 @@ flags_of limit c r NotRecognised = 2 ^ 19
 flags_of limit c r Timeout = 2 ^ 25
 flags_of limit c r (Answered a) = bits_of (
     a.derr sets 26
-    ∷ spent limit (qmodeOf c.transfer) a r.tries sets 25
+    ∷ spent limit (qmode_of c.transfer) a r.tries sets 25
     ∷ a.err sets 23
-    ∷ scanLeaves (qmodeOf c.transfer) a r.position r.left sets 22
+    ∷ scan_leaves (qmode_of c.transfer) a r.position r.left sets 22
     ∷ a.lpe sets 21
     ∷ a.tpe sets 20
     ∷ (a.tpe || (a.lpe || a.err)) sets 18
@@ -45,5 +45,5 @@ abbrev pub code_in : ℕ → ℕ
 code_in status = status / 2 ^ 28
 
 -- the bits that a waiting record's status may have: "status has only bits 16–18, 20, 21, 23, 26"
-abbrev pub waitingBits : ℕ
-waitingBits = bits_of (true sets 16 ∷ true sets 17 ∷ true sets 18 ∷ true sets 20 ∷ true sets 21 ∷ true sets 23 ∷ true sets 26 ∷ [])
+abbrev pub waiting_bits : ℕ
+waiting_bits = bits_of (true sets 16 ∷ true sets 17 ∷ true sets 18 ∷ true sets 20 ∷ true sets 21 ∷ true sets 23 ∷ true sets 26 ∷ [])

@@ -1,6 +1,6 @@
 // When a word is done, and what ends a run.
 ghost use Rattle.std.specs.Prelude.{◌≡◌, ◌^◌, ◌<◌};
-ghost use Rattle.reply.specs.Causes.{doneBy, parityError, damaged, causesOf, code_of, onlyNine};
+ghost use Rattle.reply.specs.Causes.{done_by, parity_error, damaged, causes_of, code_of, only_nine};
 
 use crate::records::Record;
 use crate::replies::Reply;
@@ -8,7 +8,7 @@ use camac::Command;
 use qmodes::{Answer, QMode};
 
 pub fn done_by(q: QMode, reply: Reply) -> bool
-    ensures { result ≡ doneBy q reply }
+    ensures { result ≡ done_by q reply }
 {
     match reply {
         Reply::Answered(a) => qmodes::is_done(q, a),
@@ -19,7 +19,7 @@ pub fn done_by(q: QMode, reply: Reply) -> bool
 }
 
 fn has_parity_error(ad: bool, a: Answer) -> bool
-    ensures { result ≡ parityError ad a }
+    ensures { result ≡ parity_error ad a }
 {
     (a.tpe | a.lpe) & !ad
 }
@@ -74,7 +74,7 @@ pub fn code_of(limit: usize, c: Command, r: Record, reply: Reply) -> u32
 // Whether 9 is the only cause: a damaged command may stand beside it.
 pub fn is_only_nine(limit: usize, c: Command, r: Record, reply: Reply, code: u32) -> bool
     requires { code ≡ code_of limit c r reply }
-    ensures { result ≡ onlyNine (causesOf limit c r reply) }
+    ensures { result ≡ only_nine (causes_of limit c r reply) }
 {
     match reply {
         Reply::Answered(a) => !is_damaged(c.ad, a) & (code == 9),

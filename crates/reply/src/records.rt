@@ -1,7 +1,7 @@
 // The record of a run, and what changes in it.
 ghost use Rattle.std.specs.Prelude.{◌≡◌, ◌^◌, ◌<◌, ◌≤◌};
-ghost use Rattle.walk.specs.Walk.{movedBy};
-ghost use Rattle.reply.specs.Effect.{endedAt, waits_for, withMarks, noteAfter, movedRecord, counted, waiting, zeroRecord};
+ghost use Rattle.walk.specs.Walk.{moved_by};
+ghost use Rattle.reply.specs.Effect.{ended_at, waits_for, with_marks, note_after, moved_record, counted, waiting, zero_record};
 
 use crate::replies::Reply;
 use crate::status::{CODE, ENDED, flags_of};
@@ -35,7 +35,7 @@ pub struct Record {
 
 // All zero but for `ended`.
 pub fn zero_record(ended: bool) -> Record
-    ensures { result ≡ zeroRecord ended }
+    ensures { result ≡ zero_record ended }
 {
     Record {
         ended: ended,
@@ -63,7 +63,7 @@ pub fn zero_record(ended: bool) -> Record
 // The record of a run that ended at a spot. A code has four bits.
 pub fn ended_at(k: Spot, code: u32, r: Record) -> Record
     requires { code ≤ 13 }
-    ensures { result ≡ endedAt k code r }
+    ensures { result ≡ ended_at k code r }
 {
     let marks = r.marks;
     let note = r.note;
@@ -124,7 +124,7 @@ pub fn wait_on(left: usize, tries: usize, p: ScanPosition, r: Record) -> Record
 }
 
 pub fn with_marks(m: Marks, r: Record) -> Record
-    ensures { result ≡ withMarks m r }
+    ensures { result ≡ with_marks m r }
 {
     let spot = r.spot;
     let position = r.position;
@@ -168,7 +168,7 @@ pub fn counted_record(limit: usize, c: Command, reply: Reply, r: Record) -> Reco
 // The marks after one word. Every mark is below 2^63: it counts bytes of a buffer.
 pub fn moved_marks(d: Direction, wide: bool, m: Marks) -> Marks
     requires { (m.incoming < 2 ^ 63) × (m.outgoing < 2 ^ 63) }
-    ensures { result ≡ movedBy d wide m }
+    ensures { result ≡ moved_by d wide m }
 {
     match d {
         Direction::Incoming => Marks {
@@ -186,7 +186,7 @@ pub fn moved_marks(d: Direction, wide: bool, m: Marks) -> Marks
 // The note after one word. Every mark is below 2^63: it counts bytes of a buffer.
 pub fn note_after(d: Direction, wide: bool, r: Record) -> Note
     requires { (r.marks.incoming < 2 ^ 63) × (r.marks.outgoing < 2 ^ 63) }
-    ensures { result ≡ noteAfter d wide r }
+    ensures { result ≡ note_after d wide r }
 {
     let marks = r.marks;
     let note = r.note;
@@ -208,7 +208,7 @@ pub fn note_after(d: Direction, wide: bool, r: Record) -> Note
 // The record after one word moved. Every mark is below 2^63: it counts bytes of a buffer.
 pub fn moved_record(c: Command, r: Record) -> Record
     requires { (r.marks.incoming < 2 ^ 63) × (r.marks.outgoing < 2 ^ 63) }
-    ensures { result ≡ movedRecord c r }
+    ensures { result ≡ moved_record c r }
 {
     let spot = r.spot;
     let t = c.transfer;

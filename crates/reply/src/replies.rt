@@ -1,8 +1,8 @@
 // Replies: what eight bytes say.
 ghost use Rattle.std.specs.Prelude.{◌≡◌, ◌+◌, ◌≤◌, true, length, take, drop};
 ghost use Rattle.std.proofs.Math.Option.{some};
-ghost use Rattle.reply.specs.Replies.{answer_in, replyOf, isFormed};
-ghost use Rattle.reply.specs.model.Decoded.{formedBy};
+ghost use Rattle.reply.specs.Replies.{answer_in, reply_of, is_formed};
+ghost use Rattle.reply.specs.model.Decoded.{formed_by};
 
 use qmodes::Answer;
 
@@ -49,7 +49,7 @@ fn answer_in(bytes: &[u8]) -> Answer
 // Whether eight bytes are a reply. A piece of a row has eight.
 fn is_formed(bytes: &[u8]) -> bool
     requires { length bytes.now ≡ 8 }
-    ensures { result ≡ isFormed bytes.now }
+    ensures { result ≡ is_formed bytes.now }
 {
     let kind = bytes[0];
     let flags = bytes[1];
@@ -64,8 +64,8 @@ fn is_formed(bytes: &[u8]) -> bool
 
 // The reply that formed bytes are: the kind, the flags and the data are all that is read.
 fn reply_in(bytes: &[u8]) -> Reply
-    requires { (length bytes.now ≡ 8) × (isFormed bytes.now ≡ true) }
-    ensures { replyOf bytes.now ≡ some result }
+    requires { (length bytes.now ≡ 8) × (is_formed bytes.now ≡ true) }
+    ensures { reply_of bytes.now ≡ some result }
 {
     let kind = bytes[0];
     match kind {
@@ -79,21 +79,21 @@ fn reply_in(bytes: &[u8]) -> Reply
 // Whether the eight bytes at a place of a row are a reply. A row that is checked is a multiple of 8 bytes.
 pub fn is_formed_at(row: &[u8], at: usize) -> bool
     requires { at + 8 ≤ length row.now }
-    ensures { result ≡ isFormed (take 8 (drop at row.now)) }
+    ensures { result ≡ is_formed (take 8 (drop at row.now)) }
 {
     is_formed(&row[at..at + 8])
 }
 
 // The reply at a place of a row, which has passed its check.
 pub fn reply_at(row: &[u8], at: usize) -> Reply
-    requires { (at + 8 ≤ length row.now) × (isFormed (take 8 (drop at row.now)) ≡ true) }
-    ensures { replyOf (take 8 (drop at row.now)) ≡ some result }
+    requires { (at + 8 ≤ length row.now) × (is_formed (take 8 (drop at row.now)) ≡ true) }
+    ensures { reply_of (take 8 (drop at row.now)) ≡ some result }
 {
     reply_in(&row[at..at + 8])
 }
 
 pub fn reply_of(bytes: &[u8]) -> Formed
-    ensures { formedBy result ≡ replyOf bytes.now }
+    ensures { formed_by result ≡ reply_of bytes.now }
 {
     if bytes.len() != 8 {
         return Formed::NotFormed;

@@ -21,19 +21,19 @@ try P a b c d e (suc zero) (suc zero) (suc (suc z)) hx hy hz = absurd (omega ari
 try P a b c d e (suc zero) (suc (suc y)) z hx hy hz = absurd (omega arith)
 try P a b c d e (suc (suc x)) y z hx hy hz = absurd (omega arith)
 
-bit-and-or : (x y z : ℕ) → x < 2 → y < 2 → z < 2 → bit_and (bit_or x y) z ≡ bit_or (bit_and x z) (bit_and y z)
-bit-and-or = try (λ (x y z : ℕ). bit_and (bit_or x y) z ≡ bit_or (bit_and x z) (bit_and y z)) (λ y z. refl) refl refl refl refl
+bit_and_or : (x y z : ℕ) → x < 2 → y < 2 → z < 2 → bit_and (bit_or x y) z ≡ bit_or (bit_and x z) (bit_and y z)
+bit_and_or = try (λ (x y z : ℕ). bit_and (bit_or x y) z ≡ bit_or (bit_and x z) (bit_and y z)) (λ y z. refl) refl refl refl refl
 
-bit-or-assoc : (x y z : ℕ) → x < 2 → y < 2 → z < 2 → bit_or (bit_or x y) z ≡ bit_or x (bit_or y z)
-bit-or-assoc = try (λ (x y z : ℕ). bit_or (bit_or x y) z ≡ bit_or x (bit_or y z)) (λ y z. refl) refl refl refl refl
+bit_or_assoc : (x y z : ℕ) → x < 2 → y < 2 → z < 2 → bit_or (bit_or x y) z ≡ bit_or x (bit_or y z)
+bit_or_assoc = try (λ (x y z : ℕ). bit_or (bit_or x y) z ≡ bit_or x (bit_or y z)) (λ y z. refl) refl refl refl refl
 
-pub and-or : (a b m : ℕ) → bit_and (bit_or a b) m ≡ bit_or (bit_and a m) (bit_and b m)
-and-or a =
+pub and_or : (a b m : ℕ) → bit_and (bit_or a b) m ≡ bit_or (bit_and a m) (bit_and b m)
+and_or a =
     bin_ind (λ (n : ℕ). (b m : ℕ) → bit_and (bit_or n b) m ≡ bit_or (bit_and n m) (bit_and b m)) (λ b m. refl)
     (λ n ih b m. same_number _ _
     (and_shr (bit_or n b) m 1 ∙ ap (λ (x : ℕ). bit_and x (m / 2)) (or_shr n b 1) ∙ ih (b / 2) (m / 2)
     ∙ sym (or_shr (bit_and n m) (bit_and b m) 1 ∙ ap₂ bit_or (and_shr n m 1) (and_shr b m 1)))
-    (and_mod (bit_or n b) m 1 ∙ ap (λ (x : ℕ). bit_and x (m % 2)) (or_mod n b 1) ∙ bit-and-or (n % 2) (b % 2) (m % 2) (omega arith) (omega arith) (omega arith)
+    (and_mod (bit_or n b) m 1 ∙ ap (λ (x : ℕ). bit_and x (m % 2)) (or_mod n b 1) ∙ bit_and_or (n % 2) (b % 2) (m % 2) (omega arith) (omega arith) (omega arith)
     ∙ sym (or_mod (bit_and n m) (bit_and b m) 1 ∙ ap₂ bit_or (and_mod n m 1) (and_mod b m 1))))
     a
 
@@ -43,7 +43,7 @@ or_assoc a =
     (λ n ih b c. same_number _ _
     (or_shr (bit_or n b) c 1 ∙ ap (λ (x : ℕ). bit_or x (c / 2)) (or_shr n b 1) ∙ ih (b / 2) (c / 2)
     ∙ sym (or_shr n (bit_or b c) 1 ∙ ap (bit_or (n / 2)) (or_shr b c 1)))
-    (or_mod (bit_or n b) c 1 ∙ ap (λ (x : ℕ). bit_or x (c % 2)) (or_mod n b 1) ∙ bit-or-assoc (n % 2) (b % 2) (c % 2) (omega arith) (omega arith) (omega arith)
+    (or_mod (bit_or n b) c 1 ∙ ap (λ (x : ℕ). bit_or x (c % 2)) (or_mod n b 1) ∙ bit_or_assoc (n % 2) (b % 2) (c % 2) (omega arith) (omega arith) (omega arith)
     ∙ sym (or_mod n (bit_or b c) 1 ∙ ap (bit_or (n % 2)) (or_mod b c 1))))
     a
 
@@ -55,5 +55,5 @@ or_swap a b c d =
     ∙ sym (or_assoc a c (bit_or b d))
 
 -- no bit of both: none of either
-pub or-none : (a b : ℕ) → bit_or a b ≡ 0 → (a ≡ 0) × (b ≡ 0)
-or-none a b e = (omega (arith, or_add_and a b, and_le_r a b), omega (arith, or_add_and a b, and_le_l a b))
+pub or_none : (a b : ℕ) → bit_or a b ≡ 0 → (a ≡ 0) × (b ≡ 0)
+or_none a b e = (omega (arith, or_add_and a b, and_le_r a b), omega (arith, or_add_and a b, and_le_l a b))

@@ -2,7 +2,7 @@
 ghost use Rattle.std.specs.Prelude.{◌≡◌, ◌+◌, ◌-◌, ◌*◌, ◌/◌, ◌%◌, ◌<◌, ◌≤◌, eqb, length, get_or};
 ghost use Rattle.std.specs.Int.Bits.{bit_and};
 ghost use Rattle.base.specs.Checks.{if◌then◌else◌};
-ghost use Rattle.row.specs.model.Words.{ReadAs, StretchReadAs, BitsOver, gatheredBits, raisedOver, raisedBits};
+ghost use Rattle.row.specs.model.Words.{ReadAs, StretchReadAs, BitsOver, gathered_bits, raised_over, raised_bits};
 
 // What a row is: not formed, or formed, with a number of answers before any reply of another kind.
 #[derive(Drop)]
@@ -103,7 +103,7 @@ pub fn read_row(row: &[u8]) -> RowRead
 // The bits that any of some replies has, Q and X negated.
 fn any_raised(row: &[u8], from: usize, to: usize) -> u64
     requires { (from ≤ to) × (to * 8 ≤ length row.now) }
-    ensures { result / 256 % 64 ≡ raisedOver row.now from (to - from) }
+    ensures { result / 256 % 64 ≡ raised_over row.now from (to - from) }
 {
     let mut bits: u64 = 0;
     let mut k = from;
@@ -124,7 +124,7 @@ fn raised_error(g: u32) -> u32
 // The status bits of flags, Q and X negated.
 fn raised_bits(g: u32) -> u32
     requires { g < 64 }
-    ensures { result ≡ raisedBits g }
+    ensures { result ≡ raised_bits g }
 {
     (g & 51) * 65536 | ((g & 4) * 2097152 | ((g & 8) * 8388608 | raised_error(g)))
 }
@@ -132,7 +132,7 @@ fn raised_bits(g: u32) -> u32
 // The status bits of the replies from one number to another.
 pub fn gathered(row: &[u8], from: usize, to: usize) -> u32
     requires { (from ≤ to) × (to * 8 ≤ length row.now) }
-    ensures { result ≡ gatheredBits row.now from (to - from) }
+    ensures { result ≡ gathered_bits row.now from (to - from) }
 {
     raised_bits((any_raised(row, from, to) / 256 % 64) as u32)
 }

@@ -2,15 +2,15 @@
 ghost use Rattle.std.specs.Prelude.{◌≡◌, true, false, ◌+◌, ◌*◌, ◌%◌, ◌<◌, ◌≤◌, eqb, length};
 ghost use Rattle.std.specs.Int.Bits.{bit_and};
 ghost use Rattle.std.proofs.lemmas.List.Edits.{sets};
-ghost use Rattle.base.specs.Bytes.{shortBytes};
-ghost use Rattle.packing.specs.Packing.{markAfter, markAfterWords, stored};
-ghost use Rattle.reply.specs.Replies.{repliesIn, allFormed};
-ghost use Rattle.row.specs.model.Words.{longwordIn, flagsAt, WordsAt, WideTaken, wordsStored, Tops};
+ghost use Rattle.base.specs.Bytes.{short_bytes};
+ghost use Rattle.packing.specs.Packing.{mark_after, mark_after_words, stored};
+ghost use Rattle.reply.specs.Replies.{replies_in, all_formed};
+ghost use Rattle.row.specs.model.Words.{longword_in, flags_at, WordsAt, WideTaken, words_stored, Tops};
 
 // Whether an answer is a word: of the flags in the mask, just Q and X are set.
 pub fn is_word_at(row: &[u8], k: usize, mask: u8) -> bool
     requires { k * 8 + 8 ≤ length row.now }
-    ensures { result ≡ eqb (bit_and (flagsAt row.now k) mask) (mask % 4) }
+    ensures { result ≡ eqb (bit_and (flags_at row.now k) mask) (mask % 4) }
 {
     row[k * 8 + 1] & mask == mask % 4
 }
@@ -19,7 +19,7 @@ pub fn is_word_at(row: &[u8], k: usize, mask: u8) -> bool
 pub fn pass_words(row: &[u8], from: usize, most: usize, mask: u8) -> usize
     requires { (from + most) * 8 ≤ length row.now }
     ensures { (result ≤ most) × (WordsAt mask row.now from result
-        × (1 ≤ most → eqb (bit_and (flagsAt row.now from) mask) (mask % 4) ≡ true → 1 ≤ result)) }
+        × (1 ≤ most → eqb (bit_and (flags_at row.now from) mask) (mask % 4) ≡ true → 1 ≤ result)) }
 {
     let mut k: usize = 0;
     while k < most {
@@ -34,7 +34,7 @@ pub fn pass_words(row: &[u8], from: usize, most: usize, mask: u8) -> usize
 // The word of 16 bits of the answer at a place. Both bytes are read first: the back end does not know that row and buffer lie apart.
 fn put_narrow(incoming: &mut [u8], to: usize, row: &[u8], at: usize)
     requires { (to + 2 ≤ length incoming.old) × (at + 8 ≤ length row.now) }
-    ensures { incoming.new ≡ sets incoming.old to (shortBytes (longwordIn row.now at)) }
+    ensures { incoming.new ≡ sets incoming.old to (short_bytes (longword_in row.now at)) }
 {
     let low = row[at + 4];
     let high = row[at + 5];
@@ -44,8 +44,8 @@ fn put_narrow(incoming: &mut [u8], to: usize, row: &[u8], at: usize)
 
 // The longword that a word of 24 bits is stored as. Byte 7 of an answer is zero. The word is read first: the other order costs singles two moves.
 fn wide_at(row: &[u8], k: usize, tops: &[u32; 64]) -> u32
-    requires { (k * 8 + 8 ≤ length row.now) × ((allFormed (repliesIn row.now) ≡ true) × Tops tops.now) }
-    ensures { result ≡ longwordIn row.now (k * 8) }
+    requires { (k * 8 + 8 ≤ length row.now) × ((all_formed (replies_in row.now) ≡ true) × Tops tops.now) }
+    ensures { result ≡ longword_in row.now (k * 8) }
 {
     let word = base::whole_at(row, k * 8 + 4);
     word + tops[base::usize_of(row[k * 8 + 1] ^ 3)]
@@ -62,8 +62,8 @@ fn read_narrow(
 ) -> usize
     requires { ((from + most) * 8 ≤ length row.now) × (mark + most * 2 ≤ length incoming.old) }
     ensures { (result ≤ most) × (WordsAt mask row.now from result
-        × ((1 ≤ most → eqb (bit_and (flagsAt row.now from) mask) (mask % 4) ≡ true → 1 ≤ result)
-        × (incoming.new ≡ wordsStored false row.now from mark result incoming.old))) }
+        × ((1 ≤ most → eqb (bit_and (flags_at row.now from) mask) (mask % 4) ≡ true → 1 ≤ result)
+        × (incoming.new ≡ words_stored false row.now from mark result incoming.old))) }
 {
     let mut k: usize = 0;
     while k < most {
@@ -85,7 +85,7 @@ fn take_wide(
     mask: u8,
     tops: &[u32; 64],
 ) -> bool
-    requires { (to + 4 ≤ length incoming.old) × ((k * 8 + 8 ≤ length row.now) × ((allFormed (repliesIn row.now) ≡ true) × Tops tops.now)) }
+    requires { (to + 4 ≤ length incoming.old) × ((k * 8 + 8 ≤ length row.now) × ((all_formed (replies_in row.now) ≡ true) × Tops tops.now)) }
     ensures { WideTaken mask row.now k to incoming.old result incoming.new }
 {
     if !is_word_at(row, k, mask) {
@@ -106,10 +106,10 @@ fn read_wide(
     tops: &[u32; 64],
 ) -> usize
     requires { ((from + most) * 8 ≤ length row.now) × ((mark + most * 4 ≤ length incoming.old) × ((mark % 4 ≡ 0)
-        × ((allFormed (repliesIn row.now) ≡ true) × Tops tops.now))) }
+        × ((all_formed (replies_in row.now) ≡ true) × Tops tops.now))) }
     ensures { (result ≤ most) × (WordsAt mask row.now from result
-        × ((1 ≤ most → eqb (bit_and (flagsAt row.now from) mask) (mask % 4) ≡ true → 1 ≤ result)
-        × (incoming.new ≡ wordsStored true row.now from mark result incoming.old))) }
+        × ((1 ≤ most → eqb (bit_and (flags_at row.now from) mask) (mask % 4) ≡ true → 1 ≤ result)
+        × (incoming.new ≡ words_stored true row.now from mark result incoming.old))) }
 {
     let mut k: usize = 0;
     while k + 1 < most {
@@ -149,11 +149,11 @@ pub fn read_words(
     mask: u8,
     tops: &[u32; 64],
 ) -> WordsRead
-    requires { (1 ≤ most) × (((from + most) * 8 ≤ length row.now) × ((markAfterWords wide most mark ≤ length incoming.old)
-        × ((mark % 2 ≡ 0) × ((allFormed (repliesIn row.now) ≡ true) × (WordsAt mask row.now from 1 × Tops tops.now))))) }
+    requires { (1 ≤ most) × (((from + most) * 8 ≤ length row.now) × ((mark_after_words wide most mark ≤ length incoming.old)
+        × ((mark % 2 ≡ 0) × ((all_formed (replies_in row.now) ≡ true) × (WordsAt mask row.now from 1 × Tops tops.now))))) }
     ensures { (1 ≤ result.words) × ((result.words ≤ most) × (WordsAt mask row.now from result.words
-        × ((incoming.new ≡ wordsStored wide row.now from mark result.words incoming.old)
-        × (result.mark ≡ markAfterWords wide result.words mark)))) }
+        × ((incoming.new ≡ words_stored wide row.now from mark result.words incoming.old)
+        × (result.mark ≡ mark_after_words wide result.words mark)))) }
 {
     if wide {
         let to = packing::pad(incoming, mark);
@@ -179,10 +179,10 @@ pub fn read_word(
     k: usize,
     tops: &[u32; 64],
 ) -> usize
-    requires { (markAfter wide mark ≤ length incoming.old) × ((k * 8 + 8 ≤ length row.now) × ((allFormed (repliesIn row.now) ≡ true)
+    requires { (mark_after wide mark ≤ length incoming.old) × ((k * 8 + 8 ≤ length row.now) × ((all_formed (replies_in row.now) ≡ true)
         × Tops tops.now)) }
-    ensures { (result ≡ markAfter wide mark)
-        × (incoming.new ≡ stored wide (longwordIn row.now (k * 8)) mark incoming.old) }
+    ensures { (result ≡ mark_after wide mark)
+        × (incoming.new ≡ stored wide (longword_in row.now (k * 8)) mark incoming.old) }
 {
     if wide {
         packing::store(incoming, mark, true, wide_at(row, k, tops));

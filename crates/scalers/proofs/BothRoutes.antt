@@ -9,17 +9,17 @@ use native.Mathlib.Nat.{div-div-eq-div-mul}
 use borrow.Author.Tests.{eqb-true}
 use lib.Dec.{eqb}
 use lib.ListN.{length}
-use Rattle.base.specs.Bytes.{byteAt, short_at, longAt, longBytes, Bytes}
+use Rattle.base.specs.Bytes.{byte_at, short_at, long_at, long_bytes, Bytes}
 use Rattle.base.specs.Checks.{if◌then◌else◌}
-use Rattle.base.specs.Refusals.{notRefused, refusal}
-use Rattle.base.proofs.Puts.{long-put}
+use Rattle.base.specs.Refusals.{not_refused, refusal}
+use Rattle.base.proofs.Puts.{long_put}
 use Rattle.scalers.specs.declared.longwords.Way.{Way}
 use Rattle.scalers.specs.declared.rows.Checked.{Checked}
 use Rattle.scalers.specs.declared.rows.Checked.TheVariants.{Passes, Bad}
-use Rattle.scalers.specs.Scalers.{isBad, digits, convertedTo, longwordsIn, row_of, checkedFrom, convertedRow, Outcome, leaving, judged, convert_of}
-use Rattle.scalers.specs.BothRoutes.{back, RowPasses, EachPasses, eachConverted, BothRoutes}
+use Rattle.scalers.specs.Scalers.{is_bad, digits, converted_to, longwords_in, row_of, checked_from, converted_row, Outcome, leaving, judged, convert_of}
+use Rattle.scalers.specs.BothRoutes.{back, RowPasses, EachPasses, each_converted, BothRoutes}
 use Rattle.scalers.proofs.DigitLaws.{digits_number}
-use Rattle.scalers.proofs.RowLaws.{passes-both, by-check}
+use Rattle.scalers.proofs.RowLaws.{passes_both, by_check}
 use Rattle.scalers.proofs.LongwordLaws.{returned}
 
 -- Longwords and bytes ----------------------------------------------------------------------------------------------------
@@ -28,14 +28,14 @@ abbrev Longwords : List ℕ → Type 0
 Longwords [] = Unit {0}
 Longwords (w ∷ ws) = (w < 2 ^ 32) × Longwords ws
 
-long-sum : (w : ℕ) → w < 2 ^ 32 → w % 256 + w / 256 % 256 * 256 + (w / 65536 % 256 + w / 16777216 % 256 * 256) * 65536 ≡ w
-unfolding longAt short_at byteAt
-long-sum w h = long-put (0 ∷ 0 ∷ 0 ∷ 0 ∷ []) 0 w (omega arith) h
+long_sum : (w : ℕ) → w < 2 ^ 32 → w % 256 + w / 256 % 256 * 256 + (w / 65536 % 256 + w / 16777216 % 256 * 256) * 65536 ≡ w
+unfolding long_at short_at byte_at
+long_sum w h = long_put (0 ∷ 0 ∷ 0 ∷ 0 ∷ []) 0 w (omega arith) h
 
-longwords-row : (ws : List ℕ) → Longwords ws → longwordsIn (row_of ws) ≡ ws
-unfolding longwordsIn row_of longAt short_at byteAt
-longwords-row [] h = refl
-longwords-row (w ∷ ws) h = ap₂ (λ (x : ℕ) (xs : List ℕ). x ∷ xs) (long-sum w h.0) (longwords-row ws h.1)
+longwords_row : (ws : List ℕ) → Longwords ws → longwords_in (row_of ws) ≡ ws
+unfolding longwords_in row_of long_at short_at byte_at
+longwords_row [] h = refl
+longwords_row (w ∷ ws) h = ap₂ (λ (x : ℕ) (xs : List ℕ). x ∷ xs) (long_sum w h.0) (longwords_row ws h.1)
 
 whole_row : (ws : List ℕ) → length (row_of ws) % 4 ≡ 0
 unfolding row_of
@@ -44,48 +44,48 @@ whole_row (w ∷ ws) = omega (arith, whole_row ws)
 
 -- of four bytes
 module _ (a b c d : ℕ) (ha : a < 256) (hb : b < 256) (hc : c < 256) (hd : d < 256) where
-  long-below : a + b * 256 + (c + d * 256) * 65536 < 2 ^ 32
-  long-below = omega arith
+  long_below : a + b * 256 + (c + d * 256) * 65536 < 2 ^ 32
+  long_below = omega arith
 
   -- the bytes are digits in base 256
-  long-again : longBytes (a + b * 256 + (c + d * 256) * 65536) ≡ a ∷ b ∷ c ∷ d ∷ []
-  long-again =
+  long_again : long_bytes (a + b * 256 + (c + d * 256) * 65536) ≡ a ∷ b ∷ c ∷ d ∷ []
+  long_again =
       let w = a + b * 256 + (c + d * 256) * 65536 in
-      let bytes : digits 256 4 w ≡ longBytes w = simp div-div-eq-div-mul in
+      let bytes : digits 256 4 w ≡ long_bytes w = simp div-div-eq-div-mul in
       sym bytes ∙ digits_number 256 (omega arith) (a ∷ b ∷ c ∷ d ∷ []) (ha, (hb, (hc, (hd, tt)))) w 0 (omega arith)
 
 -- the longwords of a row of bytes
-longwords-of : (row : List ℕ) → Bytes row → Longwords (longwordsIn row)
-unfolding longwordsIn longAt short_at byteAt
-longwords-of [] h = tt
-longwords-of (a ∷ []) h = tt
-longwords-of (a ∷ b ∷ []) h = tt
-longwords-of (a ∷ b ∷ c ∷ []) h = tt
-longwords-of (a ∷ b ∷ c ∷ d ∷ row) h = (long-below a b c d (h 0) (h 1) (h 2) (h 3), longwords-of row (λ i. h (suc (suc (suc (suc i))))))
+longwords_of : (row : List ℕ) → Bytes row → Longwords (longwords_in row)
+unfolding longwords_in long_at short_at byte_at
+longwords_of [] h = tt
+longwords_of (a ∷ []) h = tt
+longwords_of (a ∷ b ∷ []) h = tt
+longwords_of (a ∷ b ∷ c ∷ []) h = tt
+longwords_of (a ∷ b ∷ c ∷ d ∷ row) h = (long_below a b c d (h 0) (h 1) (h 2) (h 3), longwords_of row (λ i. h (suc (suc (suc (suc i))))))
 
 -- and their bytes again
-row-longwords : (row : List ℕ) → Bytes row → length row % 4 ≡ 0 → row_of (longwordsIn row) ≡ row
-unfolding longwordsIn row_of longAt short_at byteAt
-row-longwords [] h e = refl
-row-longwords (a ∷ []) h e = absurd (omega arith)
-row-longwords (a ∷ b ∷ []) h e = absurd (omega arith)
-row-longwords (a ∷ b ∷ c ∷ []) h e = absurd (omega arith)
-row-longwords (a ∷ b ∷ c ∷ d ∷ row) h e =
-    ap₂ (λ (l : List ℕ) (r : List ℕ). l ++ r) (long-again a b c d (h 0) (h 1) (h 2) (h 3))
-    (row-longwords row (λ i. h (suc (suc (suc (suc i))))) (omega arith))
+row_longwords : (row : List ℕ) → Bytes row → length row % 4 ≡ 0 → row_of (longwords_in row) ≡ row
+unfolding longwords_in row_of long_at short_at byte_at
+row_longwords [] h e = refl
+row_longwords (a ∷ []) h e = absurd (omega arith)
+row_longwords (a ∷ b ∷ []) h e = absurd (omega arith)
+row_longwords (a ∷ b ∷ c ∷ []) h e = absurd (omega arith)
+row_longwords (a ∷ b ∷ c ∷ d ∷ row) h e =
+    ap₂ (λ (l : List ℕ) (r : List ℕ). l ++ r) (long_again a b c d (h 0) (h 1) (h 2) (h 3))
+    (row_longwords row (λ i. h (suc (suc (suc (suc i))))) (omega arith))
 
 -- There and back ---------------------------------------------------------------------------------------------------------
 
 record Back (way : Way) (at : ℕ) (ws : List ℕ) : Type 0 where
-  longwords : Longwords (map (convertedTo way) ws)
-  passes : checkedFrom (back way) at (map (convertedTo way) ws) ≡ Passes
-  same : map (convertedTo (back way)) (map (convertedTo way) ws) ≡ ws
+  longwords : Longwords (map (converted_to way) ws)
+  passes : checked_from (back way) at (map (converted_to way) ws) ≡ Passes
+  same : map (converted_to (back way)) (map (converted_to way) ws) ≡ ws
 
-there_and_back : (way : Way) (at : ℕ) (ws : List ℕ) → Longwords ws → checkedFrom way at ws ≡ Passes → Back way at ws
-unfolding checkedFrom
+there_and_back : (way : Way) (at : ℕ) (ws : List ℕ) → Longwords ws → checked_from way at ws ≡ Passes → Back way at ws
+unfolding checked_from
 there_and_back way at [] h e = record { longwords = tt; passes = refl; same = refl }
 there_and_back way at (w ∷ ws) h e =
-    let p = passes-both way at w ws e in
+    let p = passes_both way at w ws e in
     let r = returned way w h.0 p.0 in
     let rest = there_and_back way (at + 4) ws h.1 p.1 in
     record {
@@ -98,16 +98,16 @@ there_and_back way at (w ∷ ws) h e =
 
 record Passed (way : Way) (row : List ℕ) : Type 0 where
   whole : length row % 4 ≡ 0
-  checked : checkedFrom way 0 (longwordsIn row) ≡ Passes
+  checked : checked_from way 0 (longwords_in row) ≡ Passes
 
-outcome : (way : Way) (row : List ℕ) → Passed way row → convert_of way row ≡ leaving notRefused (convertedRow way row)
-outcome way row p = by-check way row p.whole (sym p.checked)
+outcome : (way : Way) (row : List ℕ) → Passed way row → convert_of way row ≡ leaving not_refused (converted_row way row)
+outcome way row p = by_check way row p.whole (sym p.checked)
 
 passed : (way : Way) (row : List ℕ) → RowPasses way row → Passed way row
 unfolding convert_of
-passed way row e = go (eqb (length row % 4) 0) refl (checkedFrom way 0 (longwordsIn row)) refl e
+passed way row e = go (eqb (length row % 4) 0) refl (checked_from way 0 (longwords_in row)) refl e
   where
-    go : (b : Bool) → eqb (length row % 4) 0 ≡ b → (r : Checked) → checkedFrom way 0 (longwordsIn row) ≡ r
+    go : (b : Bool) → eqb (length row % 4) 0 ≡ b → (r : Checked) → checked_from way 0 (longwords_in row) ≡ r
         → (if b then judged way row r else leaving (refusal 31) row).refusal.number ≡ 0 → Passed way row
     go true t Passes q e = record { whole = eqb-true _ _ t; checked = q }
     go true t (Bad at) q e = absurd (omega arith)
@@ -116,49 +116,49 @@ passed way row e = go (eqb (length row % 4) 0) refl (checkedFrom way 0 (longword
 -- Each longword ----------------------------------------------------------------------------------------------------------
 
 module _ (way : Way) (a b c d : ℕ) where
-  one : isBad way (a + b * 256 + (c + d * 256) * 65536) ≡ false → Passed way (a ∷ b ∷ c ∷ d ∷ [])
-  unfolding checkedFrom longwordsIn longAt short_at byteAt
+  one : is_bad way (a + b * 256 + (c + d * 256) * 65536) ≡ false → Passed way (a ∷ b ∷ c ∷ d ∷ [])
+  unfolding checked_from longwords_in long_at short_at byte_at
   one e = record { whole = refl; checked = rw e }
 
-  one-row : isBad way (a + b * 256 + (c + d * 256) * 65536) ≡ false
-      → longBytes (convertedTo way (a + b * 256 + (c + d * 256) * 65536)) ≡ (convert_of way (a ∷ b ∷ c ∷ d ∷ [])).row
-  unfolding convertedRow row_of longwordsIn longAt short_at byteAt
-  one-row e = ap (λ (o : Outcome). o.row) (sym (outcome way (a ∷ b ∷ c ∷ d ∷ []) (one e)))
+  one_row : is_bad way (a + b * 256 + (c + d * 256) * 65536) ≡ false
+      → long_bytes (converted_to way (a + b * 256 + (c + d * 256) * 65536)) ≡ (convert_of way (a ∷ b ∷ c ∷ d ∷ [])).row
+  unfolding converted_row row_of longwords_in long_at short_at byte_at
+  one_row e = ap (λ (o : Outcome). o.row) (sym (outcome way (a ∷ b ∷ c ∷ d ∷ []) (one e)))
 
-each-one : (way : Way) (at : ℕ) (row : List ℕ) → checkedFrom way at (longwordsIn row) ≡ Passes
-    → EachPasses way row × (row_of (map (convertedTo way) (longwordsIn row)) ≡ eachConverted way row)
-unfolding longwordsIn row_of longAt short_at byteAt
-each-one way at [] e = (tt, refl)
-each-one way at (a ∷ []) e = (tt, refl)
-each-one way at (a ∷ b ∷ []) e = (tt, refl)
-each-one way at (a ∷ b ∷ c ∷ []) e = (tt, refl)
-each-one way at (a ∷ b ∷ c ∷ d ∷ row) e =
-    let p = passes-both way at (a + b * 256 + (c + d * 256) * 65536) (longwordsIn row) e in
-    let rest = each-one way (at + 4) row p.1 in
+each_one : (way : Way) (at : ℕ) (row : List ℕ) → checked_from way at (longwords_in row) ≡ Passes
+    → EachPasses way row × (row_of (map (converted_to way) (longwords_in row)) ≡ each_converted way row)
+unfolding longwords_in row_of long_at short_at byte_at
+each_one way at [] e = (tt, refl)
+each_one way at (a ∷ []) e = (tt, refl)
+each_one way at (a ∷ b ∷ []) e = (tt, refl)
+each_one way at (a ∷ b ∷ c ∷ []) e = (tt, refl)
+each_one way at (a ∷ b ∷ c ∷ d ∷ row) e =
+    let p = passes_both way at (a + b * 256 + (c + d * 256) * 65536) (longwords_in row) e in
+    let rest = each_one way (at + 4) row p.1 in
     let call = outcome way (a ∷ b ∷ c ∷ d ∷ []) (one way a b c d p.0) in (
       (ap (λ (o : Outcome). o.refusal.number) call, rest.0),
-      ap₂ (λ (l : List ℕ) (r : List ℕ). l ++ r) (one-row way a b c d p.0) rest.1,
+      ap₂ (λ (l : List ℕ) (r : List ℕ). l ++ r) (one_row way a b c d p.0) rest.1,
     )
 
-pub both-routes : BothRoutes
-unfolding convertedRow
-both-routes way row bytes e =
+pub both_routes : BothRoutes
+unfolding converted_row
+both_routes way row bytes e =
     let p = passed way row e in
-    let ws = longwordsIn row in
-    let there = there_and_back way 0 ws (longwords-of row bytes) p.checked in
-    let converted : (convert_of way row).row ≡ convertedRow way row = ap (λ (o : Outcome). o.row) (outcome way row p) in
-    let again : longwordsIn (convertedRow way row) ≡ map (convertedTo way) ws = longwords-row (map (convertedTo way) ws) there.longwords in
-    let q : Passed (back way) (convertedRow way row) = record {
-      whole = whole_row (map (convertedTo way) ws);
-      checked = ap (checkedFrom (back way) 0) again ∙ there.passes;
+    let ws = longwords_in row in
+    let there = there_and_back way 0 ws (longwords_of row bytes) p.checked in
+    let converted : (convert_of way row).row ≡ converted_row way row = ap (λ (o : Outcome). o.row) (outcome way row p) in
+    let again : longwords_in (converted_row way row) ≡ map (converted_to way) ws = longwords_row (map (converted_to way) ws) there.longwords in
+    let q : Passed (back way) (converted_row way row) = record {
+      whole = whole_row (map (converted_to way) ws);
+      checked = ap (checked_from (back way) 0) again ∙ there.passes;
     } in
-    let returns : convert_of (back way) (convert_of way row).row ≡ leaving notRefused row =
-    ap (convert_of (back way)) converted ∙ outcome (back way) (convertedRow way row) q
-    ∙ ap (leaving notRefused) (ap (λ (xs : List ℕ). row_of (map (convertedTo (back way)) xs)) again ∙ ap row_of there.same ∙ row-longwords row bytes p.whole) in
-    let each = each-one way 0 row p.checked in
+    let returns : convert_of (back way) (convert_of way row).row ≡ leaving not_refused row =
+    ap (convert_of (back way)) converted ∙ outcome (back way) (converted_row way row) q
+    ∙ ap (leaving not_refused) (ap (λ (xs : List ℕ). row_of (map (converted_to (back way)) xs)) again ∙ ap row_of there.same ∙ row_longwords row bytes p.whole) in
+    let each = each_one way 0 row p.checked in
     record {
       back_passes = ap (λ (o : Outcome). o.refusal.number) returns;
-      back-row = ap (λ (o : Outcome). o.row) returns;
-      each-passes = each.0;
+      back_row = ap (λ (o : Outcome). o.row) returns;
+      each_passes = each.0;
       each_row = converted ∙ each.1;
     }

@@ -8,7 +8,7 @@ use borrow.Author.Tests.{ltb-true, ltb-false, ne_eqb}
 use lib.Bits.{bit_and, bit_xor, and_zero_r, and_step, and_block, xor_self, xor_shr, xor_mod}
 use lib.Dec.{ltb, eqb}
 use Rattle.base.proofs.Tests.{on}
-use Rattle.scalers.specs.Scalers.{digits, anyAbove9}
+use Rattle.scalers.specs.Scalers.{digits, any_above9}
 
 -- a six in each of k digits
 abbrev sixes : ℕ → ℕ
@@ -20,9 +20,9 @@ abbrev lowest : ℕ → ℕ
 lowest zero = 0
 lowest (suc k) = 16 * (1 + lowest k)
 
-lowest-even : (k : ℕ) → lowest k % 2 ≡ 0
-lowest-even zero = refl
-lowest-even (suc k) = omega arith
+lowest_even : (k : ℕ) → lowest k % 2 ≡ 0
+lowest_even zero = refl
+lowest_even (suc k) = omega arith
 
 -- of these bits, those that the sixes change
 abbrev changed : ℕ → ℕ → ℕ
@@ -46,8 +46,8 @@ and_one y m e =
 xor_same : (a b : ℕ) → a % 2 ≡ b % 2 → bit_xor a b % 2 ≡ 0
 xor_same a b e = xor_mod a b 1 ∙ ap (λ (x : ℕ). bit_xor x (b % 2)) e ∙ xor_self (b % 2)
 
-xor-other : (a b : ℕ) → (a % 2 ≡ b % 2 → ⊥) → bit_xor a b % 2 ≡ 1
-xor-other a b n = xor_mod a b 1 ∙ go (a % 2) (b % 2) (omega arith) (omega arith) n
+xor_other : (a b : ℕ) → (a % 2 ≡ b % 2 → ⊥) → bit_xor a b % 2 ≡ 1
+xor_other a b n = xor_mod a b 1 ∙ go (a % 2) (b % 2) (omega arith) (omega arith) n
   where
     go : (x y : ℕ) → x < 2 → y < 2 → (x ≡ y → ⊥) → bit_xor x y ≡ 1
     go zero zero hx hy n = absurd (n refl)
@@ -65,26 +65,26 @@ module _ (k z : ℕ) where
   abbrev above : ℕ
   above = (z + sixes (suc (suc k))) / 16
 
-  changed-more : changed (suc k) z ≡ 16 * (bit_and (bit_xor above (z / 16)) (lowest k) + bit_xor above (z / 16) % 2)
-  changed-more =
+  changed_more : changed (suc k) z ≡ 16 * (bit_and (bit_xor above (z / 16)) (lowest k) + bit_xor above (z / 16) % 2)
+  changed_more =
       and_shifted (bit_xor (z + sixes (suc (suc k))) z) (1 + lowest k)
       ∙ ap (λ (y : ℕ). 16 * bit_and y (1 + lowest k)) (xor_shr (z + sixes (suc (suc k))) z 4)
-      ∙ ap (λ (x : ℕ). 16 * x) (and_one (bit_xor above (z / 16)) (lowest k) (lowest-even k))
+      ∙ ap (λ (x : ℕ). 16 * x) (and_one (bit_xor above (z / 16)) (lowest k) (lowest_even k))
 
   -- no carry
   kept : z % 16 ≤ 9 → changed (suc k) z ≡ 16 * changed k (z / 16)
   kept h =
       let same : above ≡ z / 16 + sixes (suc k) = omega arith in
       let bit : bit_xor above (z / 16) % 2 ≡ 0 = xor_same above (z / 16) (omega arith) in
-      changed-more ∙ ap₂ (λ (a : ℕ) (b : ℕ). 16 * (bit_and (bit_xor a (z / 16)) (lowest k) + b)) same bit ∙ omega arith
+      changed_more ∙ ap₂ (λ (a : ℕ) (b : ℕ). 16 * (bit_and (bit_xor a (z / 16)) (lowest k) + b)) same bit ∙ omega arith
 
   -- a carry
   carried : 9 < z % 16 → changed (suc k) z ≡ 0 → ⊥
   carried h e =
-      let bit : bit_xor above (z / 16) % 2 ≡ 1 = xor-other above (z / 16) (λ same. omega arith) in
-      omega (arith, changed-more)
+      let bit : bit_xor above (z / 16) % 2 ≡ 1 = xor_other above (z / 16) (λ same. omega arith) in
+      omega (arith, changed_more)
 
-pub carries : (k z : ℕ) → not (eqb (changed k z) 0) ≡ anyAbove9 (digits 16 k z)
+pub carries : (k z : ℕ) → not (eqb (changed k z) 0) ≡ any_above9 (digits 16 k z)
 carries zero z = ap (λ (x : ℕ). not (eqb x 0)) (and_zero_r (bit_xor (z + sixes 1) z))
 carries (suc k) z =
     on (ltb 9 (z % 16))

@@ -9,17 +9,17 @@ use native.Mathlib.Nat.{zero-add, mul-add, add_assoc, mul_comm, mul_assoc, mul_l
 use borrow.Author.Tests.{le-ltb, ltb-false}
 use lib.Dec.{ltb}
 use lib.ListN.{length}
-use Rattle.base.proofs.Bools.{or-false-left, or-false-right}
-use Rattle.scalers.specs.Scalers.{digits, number, anyAbove9}
+use Rattle.base.proofs.Bools.{or_false_left, or_false_right}
+use Rattle.scalers.specs.Scalers.{digits, number, any_above9}
 
 abbrev pub Below : ℕ → List ℕ → Type 0
 Below base [] = Unit {0}
 Below base (d ∷ ds) = (d < base) × Below base ds
 
 module _ (base : ℕ) (h : 0 < base) where
-  pub digits-below : (k n : ℕ) → Below base (digits base k n)
-  digits-below zero n = tt
-  digits-below (suc k) n = (mod-lt n h, digits-below k (n / base))
+  pub digits_below : (k n : ℕ) → Below base (digits base k n)
+  digits_below zero n = tt
+  digits_below (suc k) n = (mod-lt n h, digits_below k (n / base))
 
   lower : (d x m p : ℕ) → d + base * x + m * (p * base) ≡ d + base * (x + m * p)
   lower d x m p = simp (mul-add, add_assoc, mul_comm, mul_left_comm)
@@ -51,18 +51,18 @@ module _ (base : ℕ) (h : 0 < base) where
       ap (λ (x : ℕ). n % base + base * x) (number_digits k (n / base) ((div-lt_iff_lt-mul h).1 (subst (λ (p : ℕ). n < p) (pow-suc base k) b)))
       ∙ mod-add-div n base
 
-  pub number-below : (ds : List ℕ) → Below base ds → number base ds < base ^ length ds
-  number-below [] b = omega (arith, pow-zero base)
-  number-below (d ∷ ds) b =
-      let more : base * suc (number base ds) ≤ base * base ^ length ds = mul-le-mul (le_refl base) (number-below ds b.1) in
+  pub number_below : (ds : List ℕ) → Below base ds → number base ds < base ^ length ds
+  number_below [] b = omega (arith, pow-zero base)
+  number_below (d ∷ ds) b =
+      let more : base * suc (number base ds) ≤ base * base ^ length ds = mul-le-mul (le_refl base) (number_below ds b.1) in
       omega (arith, more, mul-suc base (number base ds), pow-suc base (length ds), mul_comm (base ^ length ds) base, b.0)
 
 -- decimal digits
-pub decimal : (ds : List ℕ) → anyAbove9 ds ≡ false → Below 10 ds
+pub decimal : (ds : List ℕ) → any_above9 ds ≡ false → Below 10 ds
 decimal [] e = tt
-decimal (d ∷ ds) e = (let z = ltb-false 9 d (or-false-left (ltb 9 d) (anyAbove9 ds) e) in omega arith, decimal ds (or-false-right (ltb 9 d) (anyAbove9 ds) e))
+decimal (d ∷ ds) e = (let z = ltb-false 9 d (or_false_left (ltb 9 d) (any_above9 ds) e) in omega arith, decimal ds (or_false_right (ltb 9 d) (any_above9 ds) e))
 
-pub none_above : (ds : List ℕ) → Below 10 ds → anyAbove9 ds ≡ false
+pub none_above : (ds : List ℕ) → Below 10 ds → any_above9 ds ≡ false
 none_above [] b = refl
 none_above (d ∷ ds) b = rw (le-ltb 9 d (omega arith)) (none_above ds b.1)
 

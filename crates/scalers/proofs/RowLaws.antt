@@ -7,13 +7,13 @@ use native.Mathlib.Omega.{arith}
 use borrow.Author.Tests.{eq-eqb, ne_eqb}
 use lib.ListN.{length, get_or, drop, drop_of_length-le}
 use lib.Seq.{drop-cons}
-use Rattle.base.specs.Bytes.{byteAt, short_at, longAt, longBytes}
+use Rattle.base.specs.Bytes.{byte_at, short_at, long_at, long_bytes}
 use Rattle.base.specs.Checks.{if◌then◌else◌}
 use Rattle.base.specs.Refusals.{refusal}
 use Rattle.scalers.specs.declared.longwords.Way.{Way}
 use Rattle.scalers.specs.declared.rows.Checked.{Checked}
 use Rattle.scalers.specs.declared.rows.Checked.TheVariants.{Passes, Bad}
-use Rattle.scalers.specs.Scalers.{isBad, convertedTo, longwordsIn, row_of, checkedFrom, convertedRow, leaving, judged, convert_of}
+use Rattle.scalers.specs.Scalers.{is_bad, converted_to, longwords_in, row_of, checked_from, converted_row, leaving, judged, convert_of}
 
 -- Longwords from a place on ----------------------------------------------------------------------------------------------
 
@@ -31,39 +31,39 @@ module _ (row : List ℕ) (at : ℕ) where
       ∙ ap (λ (l : List ℕ). get_or row (suc at) 0 ∷ l) (drop-cons row (suc (suc at)) 0 (omega arith)
       ∙ ap (λ (l : List ℕ). get_or row (suc (suc at)) 0 ∷ l) (drop-cons row (suc (suc (suc at))) 0 (omega arith)))))
 
-  pub longwords-more : at + 4 ≤ length row → longwordsIn (drop at row) ≡ longAt row at ∷ longwordsIn (drop (at + 4) row)
-  unfolding longwordsIn longAt short_at byteAt
-  longwords-more h = ap longwordsIn (four_bytes h)
+  pub longwords_more : at + 4 ≤ length row → longwords_in (drop at row) ≡ long_at row at ∷ longwords_in (drop (at + 4) row)
+  unfolding longwords_in long_at short_at byte_at
+  longwords_more h = ap longwords_in (four_bytes h)
 
-  pub longwords-none : length row ≤ at → longwordsIn (drop at row) ≡ []
-  unfolding longwordsIn
-  longwords-none h = ap longwordsIn (drop_of_length-le row h)
+  pub longwords_none : length row ≤ at → longwords_in (drop at row) ≡ []
+  unfolding longwords_in
+  longwords_none h = ap longwords_in (drop_of_length-le row h)
 
 -- the row converted from there on
-pub converted-more : (way : Way) (row : List ℕ) (at : ℕ) → at + 4 ≤ length row
-    → convertedRow way (drop at row) ≡ longBytes (convertedTo way (longAt row at)) ++ convertedRow way (drop (at + 4) row)
-unfolding convertedRow row_of
-converted-more way row at h = ap (λ (ws : List ℕ). row_of (map (convertedTo way) ws)) (longwords-more row at h)
+pub converted_more : (way : Way) (row : List ℕ) (at : ℕ) → at + 4 ≤ length row
+    → converted_row way (drop at row) ≡ long_bytes (converted_to way (long_at row at)) ++ converted_row way (drop (at + 4) row)
+unfolding converted_row row_of
+converted_more way row at h = ap (λ (ws : List ℕ). row_of (map (converted_to way) ws)) (longwords_more row at h)
 
 -- of longwords that pass, the first and those behind it pass
-pub passes-both : (way : Way) (at w : ℕ) (ws : List ℕ) → checkedFrom way at (w ∷ ws) ≡ Passes → (isBad way w ≡ false) × (checkedFrom way (at + 4) ws ≡ Passes)
-unfolding checkedFrom
-passes-both way at w ws e = go (isBad way w) refl e
+pub passes_both : (way : Way) (at w : ℕ) (ws : List ℕ) → checked_from way at (w ∷ ws) ≡ Passes → (is_bad way w ≡ false) × (checked_from way (at + 4) ws ≡ Passes)
+unfolding checked_from
+passes_both way at w ws e = go (is_bad way w) refl e
   where
-    go : (b : Bool) → isBad way w ≡ b → (if b then Bad at else checkedFrom way (at + 4) ws) ≡ Passes
-        → (isBad way w ≡ false) × (checkedFrom way (at + 4) ws ≡ Passes)
-    go true q e = absurd (bad-no-pass e)
+    go : (b : Bool) → is_bad way w ≡ b → (if b then Bad at else checked_from way (at + 4) ws) ≡ Passes
+        → (is_bad way w ≡ false) × (checked_from way (at + 4) ws ≡ Passes)
+    go true q e = absurd (bad_no_pass e)
       where
-        bad-no-pass : Bad at ≡ Passes → ⊥
-        bad-no-pass e = let z : ◌≡◌ {A = ℕ} 0 1 = ap (λ (c : Checked). elim c [ Passes ↦ 1 | Bad a ↦ 0 ]) e in omega arith
+        bad_no_pass : Bad at ≡ Passes → ⊥
+        bad_no_pass e = let z : ◌≡◌ {A = ℕ} 0 1 = ap (λ (c : Checked). elim c [ Passes ↦ 1 | Bad a ↦ 0 ]) e in omega arith
     go false q e = (q, e)
 
 -- A call -----------------------------------------------------------------------------------------------------------------
 
-pub no-longwords : (way : Way) (row : List ℕ) → ¬ (length row % 4 ≡ 0) → convert_of way row ≡ leaving (refusal 31) row
+pub no_longwords : (way : Way) (row : List ℕ) → ¬ (length row % 4 ≡ 0) → convert_of way row ≡ leaving (refusal 31) row
 unfolding convert_of
-no-longwords way row h = rw (ne_eqb (length row % 4) 0 h)
+no_longwords way row h = rw (ne_eqb (length row % 4) 0 h)
 
-pub by-check : (way : Way) (row : List ℕ) → length row % 4 ≡ 0 → {r : Checked} → r ≡ checkedFrom way 0 (longwordsIn row) → convert_of way row ≡ judged way row r
+pub by_check : (way : Way) (row : List ℕ) → length row % 4 ≡ 0 → {r : Checked} → r ≡ checked_from way 0 (longwords_in row) → convert_of way row ≡ judged way row r
 unfolding convert_of
-by-check way row h e = rw (eq-eqb (length row % 4) 0 h, e)
+by_check way row h e = rw (eq-eqb (length row % 4) 0 h, e)

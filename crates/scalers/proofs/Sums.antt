@@ -6,72 +6,72 @@ use mathlib.Core.List.{List, [], ◌∷◌}
 use native.Mathlib.Omega.{arith}
 use native.Mathlib.Nat.{div-div-eq-div-mul}
 use Rattle.base.specs.Checks.{bits}
-use Rattle.scalers.specs.Scalers.{digits, number, packedIn, keptOf}
+use Rattle.scalers.specs.Scalers.{digits, number, packed_in, kept_of}
 use Rattle.scalers.proofs.DigitLaws.{digits_number}
-use Rattle.scalers.proofs.LongwordLaws.{packed-number}
+use Rattle.scalers.proofs.LongwordLaws.{packed_number}
 
 -- The six digits ---------------------------------------------------------------------------------------------------------
 
-packed-digits : (w : ℕ) → packedIn w ≡ w % 16 ∷ w / 16 % 16 ∷ w / 256 % 16 ∷ w / 4096 % 16 ∷ w / 65536 % 16 ∷ w / 1048576 % 16 ∷ []
-packed-digits w = simp div-div-eq-div-mul
+packed_digits : (w : ℕ) → packed_in w ≡ w % 16 ∷ w / 16 % 16 ∷ w / 256 % 16 ∷ w / 4096 % 16 ∷ w / 65536 % 16 ∷ w / 1048576 % 16 ∷ []
+packed_digits w = simp div-div-eq-div-mul
 
 -- To binary --------------------------------------------------------------------------------------------------------------
 
-abbrev tensIn : ℕ → ℕ
-tensIn w = w / 16 % 16 + w / 4096 % 16 * 256 + w / 1048576 % 16 * 65536
+abbrev tens_in : ℕ → ℕ
+tens_in w = w / 16 % 16 + w / 4096 % 16 * 256 + w / 1048576 % 16 * 65536
 
-abbrev pairsIn : ℕ → ℕ
-pairsIn w = w - tensIn w * 6
+abbrev pairs_in : ℕ → ℕ
+pairs_in w = w - tens_in w * 6
 
-abbrev binarySum : ℕ → ℕ
-binarySum w = w / 1073741824 * 1073741824 + pairsIn w % 256 + pairsIn w / 256 % 256 * 100 + pairsIn w / 65536 % 256 * 10000
+abbrev binary_sum : ℕ → ℕ
+binary_sum w = w / 1073741824 * 1073741824 + pairs_in w % 256 + pairs_in w / 256 % 256 * 100 + pairs_in w / 65536 % 256 * 10000
 
 -- a longword of six digits and what lies above them
 module _ (w a b c d e f h : ℕ) (parts : w ≡ number 16 (a ∷ b ∷ c ∷ d ∷ e ∷ f ∷ []) + h * 2 ^ 24) where
-  tens-within : (b + d * 256 + f * 65536) * 6 ≤ w
-  tens-within = omega arith
+  tens_within : (b + d * 256 + f * 65536) * 6 ≤ w
+  tens_within = omega arith
 
-  three-pairs : w - (b + d * 256 + f * 65536) * 6 ≡ number 256 ((a + 10 * b) ∷ (c + 10 * d) ∷ (e + 10 * f) ∷ []) + h * 256 ^ 3
-  three-pairs = omega arith
+  three_pairs : w - (b + d * 256 + f * 65536) * 6 ≡ number 256 ((a + 10 * b) ∷ (c + 10 * d) ∷ (e + 10 * f) ∷ []) + h * 256 ^ 3
+  three_pairs = omega arith
 
 -- the longword so taken apart
 parts : (w : ℕ) → w ≡ number 16 (w % 16 ∷ w / 16 % 16 ∷ w / 256 % 16 ∷ w / 4096 % 16 ∷ w / 65536 % 16 ∷ w / 1048576 % 16 ∷ []) + w / 2 ^ 24 * 2 ^ 24
 parts w =
-    let value = ap (number 16) (sym (packed-digits w)) ∙ packed-number w in
+    let value = ap (number 16) (sym (packed_digits w)) ∙ packed_number w in
     let split : w ≡ bits 23 0 w + w / 2 ^ 24 * 2 ^ 24 = omega arith in
     split ∙ ap (λ (v : ℕ). v + w / 2 ^ 24 * 2 ^ 24) (sym value)
 
-pub tens-fit : (w : ℕ) → tensIn w * 6 ≤ w
-tens-fit w = tens-within w (w % 16) (w / 16 % 16) (w / 256 % 16) (w / 4096 % 16) (w / 65536 % 16) (w / 1048576 % 16) (w / 2 ^ 24) (parts w)
+pub tens_fit : (w : ℕ) → tens_in w * 6 ≤ w
+tens_fit w = tens_within w (w % 16) (w / 16 % 16) (w / 256 % 16) (w / 4096 % 16) (w / 65536 % 16) (w / 1048576 % 16) (w / 2 ^ 24) (parts w)
 
-pair-digits : (w : ℕ) → digits 256 3 (pairsIn w)
+pair_digits : (w : ℕ) → digits 256 3 (pairs_in w)
     ≡ (w % 16 + 10 * (w / 16 % 16)) ∷ (w / 256 % 16 + 10 * (w / 4096 % 16)) ∷ (w / 65536 % 16 + 10 * (w / 1048576 % 16)) ∷ []
-pair-digits w =
-    digits_number 256 (omega arith) _ (omega arith, (omega arith, (omega arith, tt))) (pairsIn w) (w / 2 ^ 24)
-    (three-pairs w (w % 16) (w / 16 % 16) (w / 256 % 16) (w / 4096 % 16) (w / 65536 % 16) (w / 1048576 % 16) (w / 2 ^ 24) (parts w))
+pair_digits w =
+    digits_number 256 (omega arith) _ (omega arith, (omega arith, (omega arith, tt))) (pairs_in w) (w / 2 ^ 24)
+    (three_pairs w (w % 16) (w / 16 % 16) (w / 256 % 16) (w / 4096 % 16) (w / 65536 % 16) (w / 1048576 % 16) (w / 2 ^ 24) (parts w))
 
 -- a pair is a digit in base 100
 in_pairs : (k a b c d e f : ℕ)
     → k + number 100 ((a + 10 * b) ∷ (c + 10 * d) ∷ (e + 10 * f) ∷ []) ≡ k + number 10 (a ∷ b ∷ c ∷ d ∷ e ∷ f ∷ [])
 in_pairs k a b c d e f = omega arith
 
-pub binary-sum : (w : ℕ) → w < 2 ^ 32 → binarySum w ≡ keptOf w + number 10 (packedIn w)
-binary-sum w h =
-    let x = pairsIn w in
-    let top : w / 1073741824 * 1073741824 ≡ keptOf w = omega arith in
+pub binary_sum_lem : (w : ℕ) → w < 2 ^ 32 → binary_sum w ≡ kept_of w + number 10 (packed_in w)
+binary_sum_lem w h =
+    let x = pairs_in w in
+    let top : w / 1073741824 * 1073741824 ≡ kept_of w = omega arith in
     let pairs : x % 256 ∷ x / 256 % 256 ∷ x / 65536 % 256 ∷ [] ≡ digits 256 3 x = simp div-div-eq-div-mul in
     sum (w / 1073741824 * 1073741824) (x % 256) (x / 256 % 256) (x / 65536 % 256)
-    ∙ ap₂ (λ (k : ℕ) (ps : List ℕ). k + number 100 ps) top (pairs ∙ pair-digits w)
-    ∙ in_pairs (keptOf w) (w % 16) (w / 16 % 16) (w / 256 % 16) (w / 4096 % 16) (w / 65536 % 16) (w / 1048576 % 16)
-    ∙ ap (λ (ds : List ℕ). keptOf w + number 10 ds) (sym (packed-digits w))
+    ∙ ap₂ (λ (k : ℕ) (ps : List ℕ). k + number 100 ps) top (pairs ∙ pair_digits w)
+    ∙ in_pairs (kept_of w) (w % 16) (w / 16 % 16) (w / 256 % 16) (w / 4096 % 16) (w / 65536 % 16) (w / 1048576 % 16)
+    ∙ ap (λ (ds : List ℕ). kept_of w + number 10 ds) (sym (packed_digits w))
   where
     sum : (k a b c : ℕ) → k + a + b * 100 + c * 10000 ≡ k + number 100 (a ∷ b ∷ c ∷ [])
     sum k a b c = omega arith
 
 -- To decimal -------------------------------------------------------------------------------------------------------------
 
-abbrev pub decimalSum : ℕ → ℕ
-decimalSum v = ((((v / 100000 * 16 + v / 10000) * 16 + v / 1000) * 16 + v / 100) * 16 + v / 10) * 6
+abbrev pub decimal_sum : ℕ → ℕ
+decimal_sum v = ((((v / 100000 * 16 + v / 10000) * 16 + v / 1000) * 16 + v / 100) * 16 + v / 10) * 6
 
 -- quotients q, remainders r
 quotients : (v r q r₁ q₁ r₂ q₂ r₃ q₃ r₄ q₄ : ℕ) → v ≡ r + 10 * q → q ≡ r₁ + 10 * q₁ → q₁ ≡ r₂ + 10 * q₂ → q₂ ≡ r₃ + 10 * q₃ → q₃ ≡ r₄ + 10 * q₄
@@ -81,20 +81,20 @@ quotients v r q r₁ q₁ r₂ q₂ r₃ q₃ r₄ q₄ e e₁ e₂ e₃ e₄ = 
 divided : (n m : ℕ) → n / m ≡ n / m % 10 + 10 * (n / (m * 10))
 divided n m = rw (← div-div-eq-div-mul n m 10) (omega arith)
 
-pub decimal-sum : (v : ℕ) → v < 1000000 → v + decimalSum v ≡ number 16 (digits 10 6 v)
-decimal-sum v h =
+pub decimal_sum_lem : (v : ℕ) → v < 1000000 → v + decimal_sum v ≡ number 16 (digits 10 6 v)
+decimal_sum_lem v h =
     quotients v (v % 10) (v / 10) (v / 10 % 10) (v / 100) (v / 100 % 10) (v / 1000) (v / 1000 % 10) (v / 10000) (v / 10000 % 10) (v / 100000)
     (omega arith) (divided v 10) (divided v 100) (divided v 1000) (divided v 10000)
-    ∙ sym (ap (number 16) (decimal-digits v h))
+    ∙ sym (ap (number 16) (decimal_digits v h))
   where
-    decimal-digits : (v : ℕ) → v < 1000000
+    decimal_digits : (v : ℕ) → v < 1000000
         → digits 10 6 v ≡ v % 10 ∷ v / 10 % 10 ∷ v / 100 % 10 ∷ v / 1000 % 10 ∷ v / 10000 % 10 ∷ v / 100000 ∷ []
-    decimal-digits v h =
+    decimal_digits v h =
         let top : v / 100000 % 10 ≡ v / 100000 = omega arith in
         simp (div-div-eq-div-mul, top)
 
-pub decimal-below : (v : ℕ) → v < 1000000 → decimalSum v < 2 ^ 24
-decimal-below v h =
+pub decimal_below : (v : ℕ) → v < 1000000 → decimal_sum v < 2 ^ 24
+decimal_below v h =
     at (v / 100000) (v / 10000) (v / 1000) (v / 100) (v / 10) (omega arith) (omega arith) (omega arith) (omega arith) (omega arith)
   where
     at : (f e d c b : ℕ) → f < 10 → e < 100 → d < 1000 → c < 10000 → b < 100000 → ((((f * 16 + e) * 16 + d) * 16 + c) * 16 + b) * 6 < 2 ^ 24

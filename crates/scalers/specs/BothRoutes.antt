@@ -24,22 +24,22 @@ EachPasses way (a ∷ b ∷ c ∷ []) = Unit {0}
 EachPasses way (a ∷ b ∷ c ∷ d ∷ row) = RowPasses way (a ∷ b ∷ c ∷ d ∷ []) × EachPasses way row
 
 -- and what these calls leave, in order
-abbrev pub eachConverted : Way → List ℕ → List ℕ
-eachConverted way [] = []
-eachConverted way (a ∷ []) = []
-eachConverted way (a ∷ b ∷ []) = []
-eachConverted way (a ∷ b ∷ c ∷ []) = []
-eachConverted way (a ∷ b ∷ c ∷ d ∷ row) = (convert_of way (a ∷ b ∷ c ∷ d ∷ [])).row ++ eachConverted way row
+abbrev pub each_converted : Way → List ℕ → List ℕ
+each_converted way [] = []
+each_converted way (a ∷ []) = []
+each_converted way (a ∷ b ∷ []) = []
+each_converted way (a ∷ b ∷ c ∷ []) = []
+each_converted way (a ∷ b ∷ c ∷ d ∷ row) = (convert_of way (a ∷ b ∷ c ∷ d ∷ [])).row ++ each_converted way row
 
 -- what is said of a row that passes
 pub record Returned (way : Way) (row : List ℕ) : Type 0 where
   -- the converted row passes on the way back
   pub back_passes : RowPasses (back way) (convert_of way row).row
   -- "For a row that passes, both routes return the original row"
-  pub back-row : (convert_of (back way) (convert_of way row).row).row ≡ row
+  pub back_row : (convert_of (back way) (convert_of way row).row).row ≡ row
   -- "a single call equals converting each longword"
-  pub each-passes : EachPasses way row
-  pub each_row : (convert_of way row).row ≡ eachConverted way row
+  pub each_passes : EachPasses way row
+  pub each_row : (convert_of way row).row ≡ each_converted way row
 
 abbrev pub BothRoutes : Type 0
 BothRoutes = (way : Way) (row : List ℕ) → Bytes row → RowPasses way row → Returned way row

@@ -1,6 +1,6 @@
 // One longword: whether it passes, and what it is converted to. Bits 31 and 30 stay.
 ghost use Rattle.std.specs.Prelude.{◌≡◌, false};
-ghost use Rattle.scalers.specs.Scalers.{isBad, convertedTo};
+ghost use Rattle.scalers.specs.Scalers.{is_bad, converted_to};
 
 // Which way a row is converted.
 #[derive(Drop)]
@@ -12,7 +12,7 @@ pub enum Way {
 // One of bits 29 to 24 set, or a digit above 9. With six more in each digit, one above 9 carries into the next and changes its lowest bit; the
 // highest digit and the bits above it are tested together.
 fn is_no_decimal(w: u32) -> bool
-    ensures { result ≡ isBad Way.ToBinary w }
+    ensures { result ≡ is_bad Way.ToBinary w }
 {
     let d = w % 0x4000_0000;
     (d > 0x99_9999) | (((d + 0x66_6666) ^ d) & 0x11_1110 != 0)
@@ -20,7 +20,7 @@ fn is_no_decimal(w: u32) -> bool
 
 // A longword that does not pass. On the way to decimal one of bits 29 to 24 is worth more than any value that passes.
 pub fn is_bad(way: Way, w: u32) -> bool
-    ensures { result ≡ isBad way w }
+    ensures { result ≡ is_bad way w }
 {
     match way {
         Way::ToBinary => is_no_decimal(w),
@@ -30,7 +30,7 @@ pub fn is_bad(way: Way, w: u32) -> bool
 
 // Two digits in a byte are six times the higher one more than the number that they are.
 fn binary_of(w: u32) -> u32
-    ensures { result ≡ convertedTo Way.ToBinary w }
+    ensures { result ≡ converted_to Way.ToBinary w }
 {
     let tens = w / 16 % 16 + w / 4096 % 16 * 256 + w / 1048576 % 16 * 65536;
     let pairs = w - tens * 6;
@@ -43,8 +43,8 @@ fn binary_of(w: u32) -> u32
 // A digit is a quotient by a power of ten less ten times the next one, so that the packed digits are the value and six times each quotient at its
 // place: one sum instead of six remainders.
 fn decimal_of(w: u32) -> u32
-    requires { isBad Way.ToDecimal w ≡ false }
-    ensures { result ≡ convertedTo Way.ToDecimal w }
+    requires { is_bad Way.ToDecimal w ≡ false }
+    ensures { result ≡ converted_to Way.ToDecimal w }
 {
     let v = w % 0x4000_0000;
     let s = (((v / 100000 * 16 + v / 10000) * 16 + v / 1000) * 16 + v / 100) * 16 + v / 10;
@@ -53,8 +53,8 @@ fn decimal_of(w: u32) -> u32
 
 // A longword that passes, converted.
 pub fn converted(way: Way, w: u32) -> u32
-    requires { isBad way w ≡ false }
-    ensures { result ≡ convertedTo way w }
+    requires { is_bad way w ≡ false }
+    ensures { result ≡ converted_to way w }
 {
     match way {
         Way::ToBinary => binary_of(w),

@@ -1,6 +1,6 @@
 // A row of longwords: checked first, then converted.
 ghost use Rattle.std.specs.Prelude.{◌≡◌, false, ◌%◌, length};
-ghost use Rattle.scalers.specs.Scalers.{longwordsIn, checkedFrom, convertedRow, convert_of};
+ghost use Rattle.scalers.specs.Scalers.{longwords_in, checked_from, converted_row, convert_of};
 
 use crate::longwords::{Way, converted, is_bad};
 use base::Refusal;
@@ -15,7 +15,7 @@ pub enum Checked {
 // Whether some longword does not pass. A loop that goes on to the row's end is taken four longwords at a time by the vector unit.
 fn is_any_bad(way: Way, row: &[u8]) -> bool
     requires { length row.now % 4 ≡ 0 }
-    ensures { result ≡ false → checkedFrom way 0 (longwordsIn row.now) ≡ Checked.Passes }
+    ensures { result ≡ false → checked_from way 0 (longwords_in row.now) ≡ Checked.Passes }
 {
     let mut at: usize = 0;
     let mut is_found = false;
@@ -28,7 +28,7 @@ fn is_any_bad(way: Way, row: &[u8]) -> bool
 
 fn check(way: Way, row: &[u8]) -> Checked
     requires { length row.now % 4 ≡ 0 }
-    ensures { result ≡ checkedFrom way 0 (longwordsIn row.now) }
+    ensures { result ≡ checked_from way 0 (longwords_in row.now) }
 {
     if !is_any_bad(way, row) {
         return Checked::Passes;
@@ -45,8 +45,8 @@ fn check(way: Way, row: &[u8]) -> Checked
 
 // A row that passes.
 fn convert_all(way: Way, row: &mut [u8])
-    requires { (length row.old % 4 ≡ 0) × (checkedFrom way 0 (longwordsIn row.old) ≡ Checked.Passes) }
-    ensures { row.new ≡ convertedRow way row.old }
+    requires { (length row.old % 4 ≡ 0) × (checked_from way 0 (longwords_in row.old) ≡ Checked.Passes) }
+    ensures { row.new ≡ converted_row way row.old }
 {
     let mut at: usize = 0;
     while at < row.len() {

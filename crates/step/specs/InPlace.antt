@@ -13,5 +13,5 @@ answer_of x = record { refusal = x.refusal; wanted = x.wanted }
 pub record Leaves (called : Called) (y : Answered) (r : Record) (incoming outgoing : List ℕ) : Type 0 where
   pub answer : y ≡ answer_of called
   pub run : r ≡ called.state.run
-  pub incoming-bytes : incoming ≡ called.state.incoming
-  pub outgoing-bytes : outgoing ≡ called.state.outgoing
+  pub incoming_bytes : incoming ≡ called.state.incoming
+  pub outgoing_bytes : outgoing ≡ called.state.outgoing

@@ -1,11 +1,11 @@
 // On along the walk, and the operation that a record waits for.
 ghost use Rattle.std.specs.Prelude.{◌≡◌, ◌≤◌, ℕ, length, get_or, List};
-ghost use Rattle.listfile.specs.model.Table.{instructionAt, TableRight};
-ghost use Rattle.walk.specs.Walk.{spotAfter};
-ghost use Rattle.walk.specs.model.Sums.{restFrom};
-ghost use Rattle.reply.specs.Effect.{runOn, state_of};
+ghost use Rattle.listfile.specs.model.Table.{instruction_at, TableRight};
+ghost use Rattle.walk.specs.Walk.{spot_after};
+ghost use Rattle.walk.specs.model.Sums.{rest_from};
+ghost use Rattle.reply.specs.Effect.{run_on, state_of};
 ghost use Rattle.take.specs.model.Here.{resumed};
-ghost use Rattle.step.specs.model.Onward.{Going, recordIn, GoingBy, Askable, wantedBy};
+ghost use Rattle.step.specs.model.Onward.{Going, record_in, GoingBy, Askable, wanted_by};
 
 use calls::Operation;
 use listfile::Instruction;
@@ -30,8 +30,8 @@ pub fn run_on(
     incoming: &mut [u8],
 ) -> Arrival
     requires { (count ≤ length table.now) × ((count ≤ 4096) × (TableRight list.now table.now count × Going list.now count from r incoming.old)) }
-    ensures { ((out : List ℕ) → state_of result.run incoming.new out ≡ runOn (restFrom list.now count from) (state_of r incoming.old out))
-        × (result.instruction ≡ instructionAt list.now (get_or table.now result.run.spot.instruction 0)) }
+    ensures { ((out : List ℕ) → state_of result.run incoming.new out ≡ run_on (rest_from list.now count from) (state_of r incoming.old out))
+        × (result.instruction ≡ instruction_at list.now (get_or table.now result.run.spot.instruction 0)) }
 {
     let mut at = from;
     let mut here = r;
@@ -58,7 +58,7 @@ pub fn run_on(
 // its bytes have room.
 pub fn resume(list: &[u8], table: &[u16], count: usize, taken: Taken, incoming: &mut [u8]) -> Record
     requires { (count ≤ length table.now) × ((count ≤ 4096) × (TableRight list.now table.now count × GoingBy list.now count taken incoming.old)) }
-    ensures { (out : List ℕ) → state_of result incoming.new out ≡ resumed (restFrom list.now count (spotAfter (recordIn taken).spot)) taken incoming.old out }
+    ensures { (out : List ℕ) → state_of result incoming.new out ≡ resumed (rest_from list.now count (spot_after (record_in taken).spot)) taken incoming.old out }
 {
     match taken {
         Taken::Same(r) => r,
@@ -74,7 +74,7 @@ pub fn resume(list: &[u8], table: &[u16], count: usize, taken: Taken, incoming: 
 // The operation that a run's last record waits for. A record that has ended or fits an admitted list has its instruction in the table.
 pub fn wanted_at(list: &[u8], table: &[u16], last: Record, outgoing: &[u8]) -> Operation
     requires { Askable table.now last }
-    ensures { result ≡ wantedBy list.now table.now last outgoing.now }
+    ensures { result ≡ wanted_by list.now table.now last outgoing.now }
 {
     if last.ended {
         return calls::no_operation();

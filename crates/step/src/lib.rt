@@ -3,12 +3,12 @@ pub mod along;
 pub mod place;
 
 ghost use Rattle.std.specs.Prelude.{◌≡◌, length};
-ghost use Rattle.base.specs.Refusals.{notRefused, refusal};
-ghost use Rattle.calls.specs.Calls.{noOperation, start_of, stepPrepared, step_of, Yields};
+ghost use Rattle.base.specs.Refusals.{not_refused, refusal};
+ghost use Rattle.calls.specs.Calls.{no_operation, start_of, step_prepared, step_of, Yields};
 ghost use Rattle.walk.specs.Admission.{ready};
-ghost use Rattle.walk.specs.model.Sums.{planBy};
+ghost use Rattle.walk.specs.model.Sums.{plan_by};
 ghost use Rattle.reply.specs.Effect.{state_of};
-ghost use Rattle.step.specs.model.Onward.{PreparedFor, Askable, wantedBy};
+ghost use Rattle.step.specs.model.Onward.{PreparedFor, Askable, wanted_by};
 ghost use Rattle.step.specs.InPlace.{Leaves};
 
 pub use along::{Arrival, resume, run_on, wanted_at};
@@ -20,7 +20,7 @@ use walk::{Planned, Preparation};
 
 // A refused call: number and place, the record as it is, no operation.
 fn refuse(cause: Refusal, r: Record) -> Yield
-    ensures { result ≡ record { refusal = cause; run = r; wanted = noOperation } }
+    ensures { result ≡ record { refusal = cause; run = r; wanted = no_operation } }
 {
     Yield {
         refusal: cause,
@@ -30,7 +30,7 @@ fn refuse(cause: Refusal, r: Record) -> Yield
 }
 
 fn refuse_by(number: u8, r: Record) -> Yield
-    ensures { result ≡ record { refusal = refusal number; run = r; wanted = noOperation } }
+    ensures { result ≡ record { refusal = refusal number; run = r; wanted = no_operation } }
 {
     refuse(
         Refusal {
@@ -44,7 +44,7 @@ fn refuse_by(number: u8, r: Record) -> Yield
 // A call that is not refused, with such a record.
 fn yield_of(list: &[u8], table: &[u16], last: Record, outgoing: &[u8]) -> Yield
     requires { Askable table.now last }
-    ensures { result ≡ record { refusal = notRefused; run = last; wanted = wantedBy list.now table.now last outgoing.now } }
+    ensures { result ≡ record { refusal = not_refused; run = last; wanted = wanted_by list.now table.now last outgoing.now } }
 {
     Yield {
         refusal: Refusal {
@@ -89,7 +89,7 @@ fn step_planned(
     reply: &[u8],
 ) -> Yield
     requires { PreparedFor list.now table.now plan.sizes plan.counts (length incoming.old) (length outgoing.now) }
-    ensures { Yields (stepPrepared (ready (planBy list.now plan.sizes)) reply.now (state_of r incoming.old outgoing.now))
+    ensures { Yields (step_prepared (ready (plan_by list.now plan.sizes)) reply.now (state_of r incoming.old outgoing.now))
         result incoming.new outgoing.now }
 {
     if r.ended {

@@ -1,10 +1,10 @@
 // An instruction of the walk found, and whether a record fits there.
 ghost use Rattle.std.specs.Prelude.{◌≡◌, length};
-ghost use Rattle.walk.specs.Admission.{countsOf};
-ghost use Rattle.walk.specs.Walk.{firstSpot};
-ghost use Rattle.walk.specs.model.Sums.{restFrom, planBy, PlannedRight};
+ghost use Rattle.walk.specs.Admission.{counts_of};
+ghost use Rattle.walk.specs.Walk.{first_spot};
+ghost use Rattle.walk.specs.model.Sums.{rest_from, plan_by, PlannedRight};
 ghost use Rattle.calls.specs.model.Bounds.{Bounded};
-ghost use Rattle.step.specs.model.Place.{noSums, found_at, findIn, marksIn, fits_by, FitsBy};
+ghost use Rattle.step.specs.model.Place.{no_sums, found_at, find_in, marks_in, fits_by, FitsBy};
 ghost use Rattle.step.specs.model.Onward.{PlannedFor};
 
 use camac::Command;
@@ -40,8 +40,8 @@ fn found_at(i: Instruction, before: Counts, after: u64) -> Found
 
 // The visit of a spot on an admitted list's walk, with the sums before it and the worst count after it.
 fn find(list: &[u8], table: &[u16], sizes: Sizes, sought: Spot) -> Found
-    requires { (length table.now ≡ 4096) × PlannedRight list.now table.now sizes (countsOf (planBy list.now sizes)) }
-    ensures { result ≡ findIn sizes.limit sought (restFrom list.now sizes.count firstSpot) noSums }
+    requires { (length table.now ≡ 4096) × PlannedRight list.now table.now sizes (counts_of (plan_by list.now sizes)) }
+    ensures { result ≡ find_in sizes.limit sought (rest_from list.now sizes.count first_spot) no_sums }
 {
     let mut at = walk::first_spot();
     let mut sums = Counts {
@@ -66,7 +66,7 @@ fn find(list: &[u8], table: &[u16], sizes: Sizes, sought: Spot) -> Found
 
 // Whether a record fits at what was found on an admitted list's walk.
 fn fits_here(plan: Planned, c: Command, before: Counts, after: u64, r: Record) -> bool
-    requires { Bounded plan.sizes.limit c (marksIn before) plan.counts.worst }
+    requires { Bounded plan.sizes.limit c (marks_in before) plan.counts.worst }
     ensures { result ≡ fits_by plan.sizes.limit plan.counts.worst (Found.Here c before after) r }
 {
     let sizes = plan.sizes;
@@ -82,7 +82,7 @@ fn fits_here(plan: Planned, c: Command, before: Counts, after: u64, r: Record) -
 // Whether a record fits an admitted list, and the CAMAC instruction at which it waits.
 pub fn record_fits(list: &[u8], table: &[u16], plan: Planned, r: Record) -> Fitting
     requires { PlannedFor list.now table.now plan.sizes plan.counts }
-    ensures { FitsBy (planBy list.now plan.sizes) r result }
+    ensures { FitsBy (plan_by list.now plan.sizes) r result }
 {
     let sizes = plan.sizes;
     let spot = r.spot;

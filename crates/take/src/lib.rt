@@ -1,8 +1,8 @@
 // One reply at one operation, one visit of the walk.
 ghost use Rattle.std.specs.Prelude.{◌≡◌, ◌^◌, ◌<◌, ◌≤◌, length};
 ghost use Rattle.reply.specs.Causes.{code_of};
-ghost use Rattle.reply.specs.Effect.{endedAt, longwordOf, movedBytes};
-ghost use Rattle.take.specs.model.Here.{Ready, incomingAfter, onRun, movedIf, bytesIf, movesAtEnd, hereRun, hereBuffer, RoomFor, advanceRun, advanceBuffer};
+ghost use Rattle.reply.specs.Effect.{ended_at, longword_of, moved_bytes};
+ghost use Rattle.take.specs.model.Here.{Ready, incoming_after, on_run, moved_if, bytes_if, moves_at_end, here_run, here_buffer, RoomFor, advance_run, advance_buffer};
 
 use camac::{Command, Direction};
 use listfile::Instruction;
@@ -33,7 +33,7 @@ pub enum Advance {
 
 // The longword that a read's word is stored as.
 pub fn longword_of(reply: Reply) -> u32
-    ensures { result ≡ longwordOf reply }
+    ensures { result ≡ longword_of reply }
 {
     match reply {
         Reply::Answered(a) => a.word % WORD_END + value_if(a.x, X_BIT) + value_if(a.q, Q_BIT),
@@ -45,8 +45,8 @@ pub fn longword_of(reply: Reply) -> u32
 
 // The word's bytes into the incoming buffer, for a read. The room is there: no mark passes B.
 pub fn store_by(c: Command, reply: Reply, mark: usize, buffer: &mut [u8])
-    requires { incomingAfter c mark ≤ length buffer.old }
-    ensures { buffer.new ≡ movedBytes c (longwordOf reply) mark buffer.old }
+    requires { incoming_after c mark ≤ length buffer.old }
+    ensures { buffer.new ≡ moved_bytes c (longword_of reply) mark buffer.old }
 {
     let t = c.transfer;
     let d = camac::direction_of(t);
@@ -69,8 +69,8 @@ fn go_on(
     incoming: &mut [u8],
 ) -> Taken
     requires { Ready c before incoming.old × (after.marks ≡ before.marks) }
-    ensures record { result ≡ onRun c done before after }
-    ensures bytes { incoming.new ≡ bytesIf done c (longwordOf reply) before.marks.incoming incoming.old }
+    ensures record { result ≡ on_run c done before after }
+    ensures bytes { incoming.new ≡ bytes_if done c (longword_of reply) before.marks.incoming incoming.old }
 {
     let t = c.transfer;
     let q = camac::qmode_of(t);
@@ -97,7 +97,7 @@ fn go_on(
 // Whether a reply that ends the run with this code moves its word first.
 fn moves_at_end(limit: usize, c: Command, reply: Reply, run: Record, code: u32) -> bool
     requires { code ≡ code_of limit c run reply }
-    ensures { result ≡ movesAtEnd limit c reply run }
+    ensures { result ≡ moves_at_end limit c reply run }
 {
     let t = c.transfer;
     if is_only_nine(limit, c, run, reply, code) {
@@ -117,8 +117,8 @@ fn end_run(
     incoming: &mut [u8],
 ) -> Taken
     requires { (code ≤ 13) × (Ready c before incoming.old × (after.marks ≡ before.marks)) }
-    ensures record { result ≡ Taken.Ended (endedAt before.spot code (movedIf moves c after)) }
-    ensures bytes { incoming.new ≡ bytesIf moves c (longwordOf reply) before.marks.incoming incoming.old }
+    ensures record { result ≡ Taken.Ended (ended_at before.spot code (moved_if moves c after)) }
+    ensures bytes { incoming.new ≡ bytes_if moves c (longword_of reply) before.marks.incoming incoming.old }
 {
     let spot = before.spot;
     let marks = before.marks;
@@ -132,8 +132,8 @@ fn end_run(
 // One reply at one operation. A record that fits an admitted list is ready.
 pub fn take_here(limit: usize, c: Command, reply: Reply, run: Record, incoming: &mut [u8]) -> Taken
     requires { Ready c run incoming.old }
-    ensures record { result ≡ hereRun limit c reply run }
-    ensures bytes { incoming.new ≡ hereBuffer limit c reply run incoming.old }
+    ensures record { result ≡ here_run limit c reply run }
+    ensures bytes { incoming.new ≡ here_buffer limit c reply run incoming.old }
 {
     let t = c.transfer;
     let code = code_of(limit, c, run, reply);
@@ -149,7 +149,7 @@ pub fn take_here(limit: usize, c: Command, reply: Reply, run: Record, incoming: 
 // One visit of the walk. A list has at most 4,096 instructions, and no mark passes B.
 pub fn advance_by(i: Instruction, at: Spot, r: Record, incoming: &mut [u8]) -> Advance
     requires { (at.instruction < 2 ^ 16) × RoomFor i r incoming.old }
-    ensures { (result ≡ advanceRun i at r) × (incoming.new ≡ advanceBuffer i r incoming.old) }
+    ensures { (result ≡ advance_run i at r) × (incoming.new ≡ advance_buffer i r incoming.old) }
 {
     match i {
         Instruction::Camac(c) => Advance::At(waits_for(at, c, r)),

@@ -7,9 +7,9 @@ use mathlib.Core.Option.{none, some}
 use native.Mathlib.Omega.{arith}
 use lib.ListN.{length, get_or}
 use Rattle.listfile.specs.Fields.{Field}
-use Rattle.listfile.specs.model.Table.{instructionAt, firstFields, TableRight}
+use Rattle.listfile.specs.model.Table.{instruction_at, first_fields, TableRight}
 use Rattle.listfile.specs.declared.field.Instruction.{Instruction}
-use Rattle.listfile.proofs.PassLaws.{here, count-fields, entry-field}
+use Rattle.listfile.proofs.PassLaws.{here, count_fields, entry_field}
 use Rattle.walk.specs.Walk.{field_at}
 
 field_in : (fs : List Field) (k : ℕ) (d : Field) → k < length fs → field_at fs k ≡ some (get_or fs k d)
@@ -22,12 +22,12 @@ field_out [] k h = refl
 field_out (f ∷ fs) zero h = absurd (omega arith)
 field_out (f ∷ fs) (suc k) h = field_out fs k (omega arith)
 
-pub field_past : (list : List ℕ) (n k : ℕ) → n ≤ k → field_at (firstFields list n) k ≡ none
-field_past list n k h = field_out (firstFields list n) k (rw (count-fields list n) h)
+pub field_past : (list : List ℕ) (n k : ℕ) → n ≤ k → field_at (first_fields list n) k ≡ none
+field_past list n k h = field_out (first_fields list n) k (rw (count_fields list n) h)
 
-pub field-here : (list table : List ℕ) (n k at : ℕ) (i : Instruction) → k < n → TableRight list table n
-    → at ≡ get_or table k 0 → i ≡ instructionAt list at
-    → field_at (firstFields list n) k ≡ some (record { place = at; instruction = i })
-field-here list table n k at i h right ea ei =
-    field_in (firstFields list n) k (here list 0) (rw (count-fields list n) h)
-    ∙ rw (entry-field list n k (here list 0) h, ← right.entry k h, ← ea, ← ei)
+pub field_here : (list table : List ℕ) (n k at : ℕ) (i : Instruction) → k < n → TableRight list table n
+    → at ≡ get_or table k 0 → i ≡ instruction_at list at
+    → field_at (first_fields list n) k ≡ some (record { place = at; instruction = i })
+field_here list table n k at i h right ea ei =
+    field_in (first_fields list n) k (here list 0) (rw (count_fields list n) h)
+    ∙ rw (entry_field list n k (here list 0) h, ← right.entry k h, ← ea, ← ei)

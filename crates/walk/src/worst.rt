@@ -1,10 +1,10 @@
 // W, B and O: the sums over the walk.
 ghost use Rattle.std.specs.Prelude.{◌≡◌, ◌^◌, ◌<◌, ◌≤◌};
-ghost use Rattle.camac.specs.Words.{commandIn, words_of};
-ghost use Rattle.listfile.specs.Fields.{tag_at, first_at, secondAt};
+ghost use Rattle.camac.specs.Words.{command_in, words_of};
+ghost use Rattle.listfile.specs.Fields.{tag_at, first_at, second_at};
 ghost use Rattle.listfile.specs.model.Table.{FieldPassed};
 ghost use Rattle.listfile.specs.declared.field.Tag.TheVariants.{CamacTag};
-ghost use Rattle.walk.specs.model.Sums.{SumsTo, addedBy, afterCommand};
+ghost use Rattle.walk.specs.model.Sums.{SumsTo, added_by, after_command};
 
 use camac::{Command, Direction};
 
@@ -19,7 +19,7 @@ pub struct Counts {
 // The sums after some words of a direction, with W as it is after them.
 fn added_by(d: Direction, wide: bool, words: u64, worst: u64, s: Counts) -> Counts
     requires { (words ≤ 2 ^ 32) × SumsTo (2 ^ 62) s }
-    ensures { result ≡ addedBy d wide words worst s }
+    ensures { result ≡ added_by d wide words worst s }
 {
     match d {
         Direction::Incoming => Counts {
@@ -43,7 +43,7 @@ fn added_by(d: Direction, wide: bool, words: u64, worst: u64, s: Counts) -> Coun
 // The sums after a CAMAC instruction with all its words.
 pub(crate) fn after_command(limit: u64, c: Command, s: Counts) -> Counts
     requires { (limit < 2 ^ 16) × ((words_of c.transfer ≤ 2 ^ 32) × SumsTo (2 ^ 62) s) }
-    ensures { result ≡ afterCommand limit c s }
+    ensures { result ≡ after_command limit c s }
 {
     let t = c.transfer;
     let words = camac::words_of(t);
@@ -55,7 +55,7 @@ pub(crate) fn after_command(limit: u64, c: Command, s: Counts) -> Counts
 // The same for the CAMAC field at a place, by the bits of its longwords.
 pub(crate) fn after_field(limit: u64, list: &[u8], at: usize, s: Counts) -> Counts
     requires { (limit < 2 ^ 16) × (FieldPassed list.now at × ((tag_at list.now at ≡ CamacTag) × SumsTo (2 ^ 62) s)) }
-    ensures { result ≡ afterCommand limit (commandIn (first_at list.now at) (secondAt list.now at)) s }
+    ensures { result ≡ after_command limit (command_in (first_at list.now at) (second_at list.now at)) s }
 {
     let first = listfile::first_at(list, at);
     let wide = camac::is_wide(first);

@@ -13,18 +13,18 @@ use Rattle.packing.specs.declared.Marks.{Marks}
 use Rattle.packing.specs.model.Marks.{EvenMarks}
 use Rattle.listfile.specs.declared.check.Sizes.{Sizes}
 use Rattle.listfile.proofs.Sound.{SoundCommand}
-use Rattle.walk.specs.Walk.{Visit, noMarks, moved, movedWords, marksAfter, marksOver}
-use Rattle.walk.specs.Worst.{worstOver}
-use Rattle.walk.specs.Admission.{Plan, countsOf}
-use Rattle.walk.specs.model.Sums.{planBy}
+use Rattle.walk.specs.Walk.{Visit, no_marks, moved, moved_words, marks_after, marks_over}
+use Rattle.walk.specs.Worst.{worst_over}
+use Rattle.walk.specs.Admission.{Plan, counts_of}
+use Rattle.walk.specs.model.Sums.{plan_by}
 use Rattle.walk.specs.declared.worst.Counts.{Counts}
-use Rattle.walk.proofs.Halting.{Well, well-after}
-use Rattle.walk.proofs.MarksGrow.{BelowMarks, below-trans, moved-grows, words-order, over-snoc, below}
+use Rattle.walk.proofs.Halting.{Well, well_after}
+use Rattle.walk.proofs.MarksGrow.{BelowMarks, below_trans, moved_grows, words_order, over_snoc, below}
 use Rattle.reply.specs.declared.records.Record.{Record}
-use Rattle.worst_count.proofs.Live.{Live, camacVisit, waits-once, fits-live, live-waits}
-use Rattle.worst_count.proofs.RunOn.{lastMarks}
-use Rattle.worst_count.proofs.Admitted.{SoundPlan, prepared-sound, prepared-room}
-use Rattle.worst_count.proofs.FitKept.{FitNumbers, fits-numbers}
+use Rattle.worst_count.proofs.Live.{Live, camac_visit, waits_once, fits_live, live_waits}
+use Rattle.worst_count.proofs.RunOn.{last_marks}
+use Rattle.worst_count.proofs.Admitted.{SoundPlan, prepared_sound, prepared_room}
+use Rattle.worst_count.proofs.FitKept.{FitNumbers, fits_numbers}
 use Rattle.whole_run.specs.model.Row.{Grounds}
 use Rattle.step.specs.model.Place.{Alive}
 
@@ -35,42 +35,42 @@ pub record Numbers (c : Command) (r : Record) (b : List ℕ) : Type 0 where
   pub incoming : r.marks.incoming ≤ 2 ^ 60
   pub outgoing : r.marks.outgoing ≤ 2 ^ 60
   pub operations : r.operations ≤ 2 ^ 60
-  pub room : (movedWords r.left c r.marks).incoming ≤ length b
-  pub incoming-behind : (movedWords r.left c r.marks).incoming ≤ 2 ^ 60
-  pub outgoing-behind : (movedWords r.left c r.marks).outgoing ≤ 2 ^ 60
+  pub room : (moved_words r.left c r.marks).incoming ≤ length b
+  pub incoming_behind : (moved_words r.left c r.marks).incoming ≤ 2 ^ 60
+  pub outgoing_behind : (moved_words r.left c r.marks).outgoing ≤ 2 ^ 60
   pub even : EvenMarks r.marks
 
-words-add : (j k : ℕ) (c : Command) (m : Marks) → movedWords k c (movedWords j c m) ≡ movedWords (j + k) c m
-unfolding movedWords
-words-add j zero c m = let e : j ≡ j + 0 = omega arith in ap (λ (n : ℕ). movedWords n c m) e
-words-add j (suc k) c m =
+words_add : (j k : ℕ) (c : Command) (m : Marks) → moved_words k c (moved_words j c m) ≡ moved_words (j + k) c m
+unfolding moved_words
+words_add j zero c m = let e : j ≡ j + 0 = omega arith in ap (λ (n : ℕ). moved_words n c m) e
+words_add j (suc k) c m =
     let e : suc (j + k) ≡ j + suc k = omega arith in
-    ap (moved c) (words-add j k c m) ∙ ap (λ (n : ℕ). movedWords n c m) e
+    ap (moved c) (words_add j k c m) ∙ ap (λ (n : ℕ). moved_words n c m) e
 
 -- the marks behind the instruction of a live record are at most B and O
-words-below : (p : Plan) (r : Record) (l : Live false p r) → BelowMarks (movedWords r.left l.command r.marks) (lastMarks p)
-unfolding marksAfter
-words-below p r l =
-    let v : Visit = camacVisit r.spot l.place l.command in
+words_below : (p : Plan) (r : Record) (l : Live false p r) → BelowMarks (moved_words r.left l.command r.marks) (last_marks p)
+unfolding marks_after
+words_below p r l =
+    let v : Visit = camac_visit r.spot l.place l.command in
     let n : words_of l.command.transfer - r.left + r.left ≡ words_of l.command.transfer = omega (arith, l.most) in
-    let e : movedWords r.left l.command (movedWords (words_of l.command.transfer - r.left) l.command (marksOver l.pre noMarks))
-    ≡ marksOver (l.pre ++ v ∷ []) noMarks =
-    words-add (words_of l.command.transfer - r.left) r.left l.command (marksOver l.pre noMarks)
-    ∙ ap (λ (k : ℕ). movedWords k l.command (marksOver l.pre noMarks)) n
-    ∙ sym (over-snoc l.pre v noMarks) in
-    below-trans
-    (subst (BelowMarks (movedWords r.left l.command r.marks)) e
-    (words-order r.left l.command r.marks _ l.marks.even l.marks.below))
-    (below p.visits (l.pre ++ v ∷ []) l.post noMarks (l.split ∙ sym (append_snoc l.pre v l.post)))
+    let e : moved_words r.left l.command (moved_words (words_of l.command.transfer - r.left) l.command (marks_over l.pre no_marks))
+    ≡ marks_over (l.pre ++ v ∷ []) no_marks =
+    words_add (words_of l.command.transfer - r.left) r.left l.command (marks_over l.pre no_marks)
+    ∙ ap (λ (k : ℕ). moved_words k l.command (marks_over l.pre no_marks)) n
+    ∙ sym (over_snoc l.pre v no_marks) in
+    below_trans
+    (subst (BelowMarks (moved_words r.left l.command r.marks)) e
+    (words_order r.left l.command r.marks _ l.marks.even l.marks.below))
+    (below p.visits (l.pre ++ v ∷ []) l.post no_marks (l.split ∙ sym (append_snoc l.pre v l.post)))
 
 module _ (list table : List ℕ) (s : Sizes) (room : ℕ) (g : Grounds list table s room) where
-  pub grounds-sound : SoundPlan (planBy list s)
-  grounds-sound = prepared-sound list room g.outgoing (planBy list s) g.prepared.bytes g.prepared.prepared
+  pub grounds_sound : SoundPlan (plan_by list s)
+  grounds_sound = prepared_sound list room g.outgoing (plan_by list s) g.prepared.bytes g.prepared.prepared
 
   -- B, O and W
-  small : ((lastMarks (planBy list s)).incoming ≤ 2 ^ 60) × ((lastMarks (planBy list s)).outgoing ≤ 2 ^ 60)
-      × (worstOver s.limit (planBy list s).visits ≤ 2 ^ 60)
-  unfolding countsOf
+  small : ((last_marks (plan_by list s)).incoming ≤ 2 ^ 60) × ((last_marks (plan_by list s)).outgoing ≤ 2 ^ 60)
+      × (worst_over s.limit (plan_by list s).visits ≤ 2 ^ 60)
+  unfolding counts_of
   small =
       let x = g.prepared.planned in (
         omega (arith, ap (λ (c : Counts). c.incoming) x.sums, x.below.incoming),
@@ -78,33 +78,33 @@ module _ (list table : List ℕ) (s : Sizes) (room : ℕ) (g : Grounds list tabl
         omega (arith, ap (λ (c : Counts). c.worst) x.sums, x.below.worst),
       )
 
-  pub ahead : (c : Command) (r : Record) → Alive (planBy list s) c r → (b : List ℕ) → length b ≡ room → Numbers c r b
+  pub ahead : (c : Command) (r : Record) → Alive (plan_by list s) c r → (b : List ℕ) → length b ≡ room → Numbers c r b
   ahead c r al b e = record {
-    some = n.left-least;
-    most = omega (arith, n.left-most, sound-here.words-most);
-    incoming = omega (arith, (moved-grows c r.marks).incoming, n.next_marks.incoming, small.0);
-    outgoing = omega (arith, (moved-grows c r.marks).outgoing, n.next_marks.outgoing, small.1);
-    operations = omega (arith, n.operations-most, small.2);
-    room = omega (arith, words.incoming, (prepared-room list room g.outgoing (planBy list s) g.prepared.prepared).incoming-room, e);
-    incoming-behind = omega (arith, words.incoming, small.0);
-    outgoing-behind = omega (arith, words.outgoing, small.1);
+    some = n.left_least;
+    most = omega (arith, n.left_most, sound_here.words_most);
+    incoming = omega (arith, (moved_grows c r.marks).incoming, n.next_marks.incoming, small.0);
+    outgoing = omega (arith, (moved_grows c r.marks).outgoing, n.next_marks.outgoing, small.1);
+    operations = omega (arith, n.operations_most, small.2);
+    room = omega (arith, words.incoming, (prepared_room list room g.outgoing (plan_by list s) g.prepared.prepared).incoming_room, e);
+    incoming_behind = omega (arith, words.incoming, small.0);
+    outgoing_behind = omega (arith, words.outgoing, small.1);
     even = n.even;
   }
     where
-      n : FitNumbers (planBy list s) r c
-      n = fits-numbers (planBy list s) grounds-sound r al.fit al.waits
+      n : FitNumbers (plan_by list s) r c
+      n = fits_numbers (plan_by list s) grounds_sound r al.fit al.waits
 
-      l : Live false (planBy list s) r
-      l = fits-live (planBy list s) r al.fit
+      l : Live false (plan_by list s) r
+      l = fits_live (plan_by list s) r al.fit
 
       same : l.command ≡ c
-      same = (waits-once (live-waits false (planBy list s) r grounds-sound.distinct l) al.waits).0
+      same = (waits_once (live_waits false (plan_by list s) r grounds_sound.distinct l) al.waits).0
 
-      sound-here : SoundCommand c
-      sound-here = subst SoundCommand same
-          (well-after l.pre (camacVisit r.spot l.place l.command) l.post
-          (subst Well l.split grounds-sound.well)).0
+      sound_here : SoundCommand c
+      sound_here = subst SoundCommand same
+          (well_after l.pre (camac_visit r.spot l.place l.command) l.post
+          (subst Well l.split grounds_sound.well)).0
 
-      words : BelowMarks (movedWords r.left c r.marks) (lastMarks (planBy list s))
-      words = subst (λ (d : Command). BelowMarks (movedWords r.left d r.marks) (lastMarks (planBy list s))) same
-          (words-below (planBy list s) r l)
+      words : BelowMarks (moved_words r.left c r.marks) (last_marks (plan_by list s))
+      words = subst (λ (d : Command). BelowMarks (moved_words r.left d r.marks) (last_marks (plan_by list s))) same
+          (words_below (plan_by list s) r l)

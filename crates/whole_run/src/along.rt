@@ -1,13 +1,13 @@
 // On along the walk and over the answers, with no record made before the run stops.
 ghost use Rattle.std.specs.Prelude.{◌≡◌, true, false, ℕ, ◌*◌, ◌^◌, ◌<◌, ◌≤◌, length};
-ghost use Rattle.camac.specs.Words.{commandIn, words_of};
+ghost use Rattle.camac.specs.Words.{command_in, words_of};
 ghost use Rattle.camac.specs.model.Bits.{Passes};
-ghost use Rattle.walk.specs.Walk.{movedBy};
-ghost use Rattle.walk.specs.model.Sums.{planBy};
+ghost use Rattle.walk.specs.Walk.{moved_by};
+ghost use Rattle.walk.specs.model.Sums.{plan_by};
 ghost use Rattle.whole_run.specs.model.Row.{Grounds, Stage, Moves};
 ghost use Rattle.row.specs.model.Words.{FormedFrom, Answered, Tops};
 ghost use Rattle.answers.specs.model.Visit.{place_of};
-ghost use Rattle.whole_run.specs.model.Along.{Ahead, Tabled, Reaches, arrived, between, stayOf, stopRecord};
+ghost use Rattle.whole_run.specs.model.Along.{Ahead, Tabled, Reaches, arrived, between, stay_of, stop_record};
 
 use answers::{Stay, visit};
 use camac::Direction;
@@ -42,7 +42,7 @@ pub struct Stop {
 
 fn after_literal(m: Marks) -> Marks
     requires { m.incoming < 2 ^ 63 }
-    ensures { result ≡ movedBy Direction.Incoming true m }
+    ensures { result ≡ moved_by Direction.Incoming true m }
 {
     Marks {
         incoming: packing::mark_after(true, m.incoming),
@@ -107,7 +107,7 @@ fn place_of(p: ScanPosition) -> usize
 
 fn arrive(first: u32, words: usize, marks: Marks, here: Stay) -> Stay
     requires { Passes first }
-    ensures { (second : ℕ) → words ≡ words_of (commandIn first second).transfer → result ≡ arrived (commandIn first second) marks here }
+    ensures { (second : ℕ) → words ≡ words_of (command_in first second).transfer → result ≡ arrived (command_in first second) marks here }
 {
     let note = here.note;
     Stay {
@@ -135,7 +135,7 @@ fn leave(marks: Marks, here: Stay) -> Stay
 }
 
 fn stay_of(r: Record, taken: usize) -> Stay
-    ensures { result ≡ stayOf r taken }
+    ensures { result ≡ stay_of r taken }
 {
     let p = r.position;
     let marks = r.marks;
@@ -162,10 +162,10 @@ pub(crate) fn run_answers(
     answers: usize,
     tops: &[u32; 64],
 ) -> Stop
-    requires { Grounds list.now table.now sizes (length incoming.old) × ((FormedFrom row.now (from * 8) × (Stage (planBy list.now sizes) r × (r.ended ≡ false)))
+    requires { Grounds list.now table.now sizes (length incoming.old) × ((FormedFrom row.now (from * 8) × (Stage (plan_by list.now sizes) r × (r.ended ≡ false)))
         × Answered row.now answers) × Tops tops.now }
-    ensures { Moves (planBy list.now sizes) row.now r (from * 8) incoming.old
-        (stopRecord r row.now from result) (result.stay.taken * 8) incoming.new × ((from ≤ result.stay.taken) × (result.stay.position < 4096)) }
+    ensures { Moves (plan_by list.now sizes) row.now r (from * 8) incoming.old
+        (stop_record r row.now from result) (result.stay.taken * 8) incoming.new × ((from ≤ result.stay.taken) × (result.stay.position < 4096)) }
 {
     let mut spot = r.spot;
     let begin = spot.instruction;

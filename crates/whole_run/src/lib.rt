@@ -4,12 +4,12 @@ pub mod along;
 pub mod several;
 
 ghost use Rattle.std.specs.Prelude.{◌≡◌, true, false, List, ℕ, ◌+◌, ◌*◌, ◌^◌, ◌<◌, ◌≤◌, length};
-ghost use Rattle.walk.specs.model.Sums.{planBy};
+ghost use Rattle.walk.specs.model.Sums.{plan_by};
 ghost use Rattle.reply.specs.Effect.{state_of};
-ghost use Rattle.calls.specs.Calls.{refusedRecord, run_of, Runs};
-ghost use Rattle.whole_run.specs.model.Row.{rowFrom, stoppedAt, Grounds, Stage, Moves};
+ghost use Rattle.calls.specs.Calls.{refused_record, run_of, Runs};
+ghost use Rattle.whole_run.specs.model.Row.{row_from, stopped_at, Grounds, Stage, Moves};
 ghost use Rattle.row.specs.model.Words.{FormedFrom, Answered};
-ghost use Rattle.whole_run.specs.model.Along.{stopRecord};
+ghost use Rattle.whole_run.specs.model.Along.{stop_record};
 
 use crate::along::run_answers;
 pub use along::{Reached, Stop};
@@ -32,7 +32,7 @@ pub struct Passage {
 // The record at which a run stops, by the record before reply number `from`.
 fn record_of(before: Record, from: usize, stop: Stop, row: &[u8]) -> Record
     requires { (from ≤ stop.stay.taken) × ((stop.stay.taken * 8 ≤ length row.now) × ((before.operations ≤ 2 ^ 60) × (stop.stay.position < 4096))) }
-    ensures { result ≡ stopRecord before row.now from stop }
+    ensures { result ≡ stop_record before row.now from stop }
 {
     let stay = stop.stay;
     let spot = stop.spot;
@@ -70,8 +70,8 @@ fn take_other(
     at: usize,
 ) -> Record
     requires { Grounds list.now table.now sizes (length incoming.old) × ((FormedFrom row.now at × (at < length row.now))
-        × (Stage (planBy list.now sizes) r × (r.ended ≡ false))) }
-    ensures { Moves (planBy list.now sizes) row.now r at incoming.old result (at + 8) incoming.new }
+        × (Stage (plan_by list.now sizes) r × (r.ended ≡ false))) }
+    ensures { Moves (plan_by list.now sizes) row.now r at incoming.old result (at + 8) incoming.new }
 {
     let spot = r.spot;
     let k = spot.instruction;
@@ -94,9 +94,9 @@ fn run_replies(
     row: &[u8],
     answers: usize,
 ) -> Passage
-    requires { Grounds list.now table.now sizes (length incoming.old) × (Stage (planBy list.now sizes) first × Answered row.now answers) }
-    ensures { (outgoing : List ℕ) → rowFrom (planBy list.now sizes) row.now 0 (state_of first incoming.old outgoing)
-        ≡ stoppedAt (result.taken * 8) (state_of result.run incoming.new outgoing) }
+    requires { Grounds list.now table.now sizes (length incoming.old) × (Stage (plan_by list.now sizes) first × Answered row.now answers) }
+    ensures { (outgoing : List ℕ) → row_from (plan_by list.now sizes) row.now 0 (state_of first incoming.old outgoing)
+        ≡ stopped_at (result.taken * 8) (state_of result.run incoming.new outgoing) }
 {
     let count = row.len() / 8;
     let tops = top_bits();
@@ -129,7 +129,7 @@ fn run_replies(
 
 // A run refused before it starts.
 fn refused_run(refusal: Refusal) -> Ran
-    ensures { result ≡ record { refusal = refusal; taken = 0; run = refusedRecord } }
+    ensures { result ≡ record { refusal = refusal; taken = 0; run = refused_record } }
 {
     Ran {
         refusal: refusal,

@@ -2,9 +2,9 @@
 ghost use Rattle.std.specs.Prelude.{◌≡◌, length};
 ghost use Rattle.base.specs.Refusals.{refusal};
 ghost use Rattle.walk.specs.Admission.{ready};
-ghost use Rattle.walk.specs.model.Sums.{planBy};
+ghost use Rattle.walk.specs.model.Sums.{plan_by};
 ghost use Rattle.reply.specs.Effect.{state_of};
-ghost use Rattle.calls.specs.Calls.{noOperation, stepsPrepared, steps_of, Steps};
+ghost use Rattle.calls.specs.Calls.{no_operation, steps_prepared, steps_of, Steps};
 ghost use Rattle.step.specs.model.Onward.{PreparedFor};
 
 use crate::run_replies;
@@ -17,7 +17,7 @@ use walk::{Planned, Preparation};
 
 // A refused call: the record as it is, no reply taken, no operation.
 fn refuse_steps(cause: Refusal, r: Record) -> Stepped
-    ensures { result ≡ record { refusal = cause; taken = 0; run = r; wanted = noOperation } }
+    ensures { result ≡ record { refusal = cause; taken = 0; run = r; wanted = no_operation } }
 {
     Stepped {
         refusal: cause,
@@ -28,7 +28,7 @@ fn refuse_steps(cause: Refusal, r: Record) -> Stepped
 }
 
 fn refuse_steps_by(number: u8, r: Record) -> Stepped
-    ensures { result ≡ record { refusal = refusal number; taken = 0; run = r; wanted = noOperation } }
+    ensures { result ≡ record { refusal = refusal number; taken = 0; run = r; wanted = no_operation } }
 {
     refuse_steps(
         Refusal {
@@ -50,7 +50,7 @@ fn steps_planned(
     row: &[u8],
 ) -> Stepped
     requires { PreparedFor list.now table.now plan.sizes plan.counts (length incoming.old) (length outgoing.now) }
-    ensures { Steps (stepsPrepared (ready (planBy list.now plan.sizes)) list.now row.now (state_of r incoming.old outgoing.now))
+    ensures { Steps (steps_prepared (ready (plan_by list.now plan.sizes)) list.now row.now (state_of r incoming.old outgoing.now))
         result incoming.new outgoing.now }
 {
     if r.ended {

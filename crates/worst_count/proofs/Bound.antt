@@ -1,7 +1,7 @@
 -- Demand 3, whole: WorstHeld has the upper half, WorstReached the attained half.
 use Rattle.worst_count.specs.WorstCount.{WorstCount}
-use Rattle.worst_count.proofs.WorstHeld.{start-unrefused, worst-held}
-use Rattle.worst_count.proofs.WorstReached.{worst-reached}
+use Rattle.worst_count.proofs.WorstHeld.{start_unrefused, worst_held}
+use Rattle.worst_count.proofs.WorstReached.{worst_reached}
 
-pub worst-count : WorstCount
-worst-count list i o c bytes admitted = (start-unrefused list i o c bytes admitted, worst-held list i o c bytes admitted, worst-reached list i o c bytes admitted)
+pub worst_count : WorstCount
+worst_count list i o c bytes admitted = (start_unrefused list i o c bytes admitted, worst_held list i o c bytes admitted, worst_reached list i o c bytes admitted)

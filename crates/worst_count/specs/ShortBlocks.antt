@@ -11,16 +11,16 @@ use Rattle.camac.specs.declared.words.Command.{Command}
 use Rattle.listfile.specs.declared.field.Instruction.TheVariants.{Camac}
 use Rattle.walk.specs.Walk.{Visit}
 use Rattle.walk.specs.Admission.{Plan, ready, prepare}
-use Rattle.reply.specs.Causes.{code_of, closedBy}
+use Rattle.reply.specs.Causes.{code_of, closed_by}
 use Rattle.reply.specs.Effect.{State}
 use Rattle.reply.specs.declared.records.Record.{Record}
 use Rattle.reply.specs.declared.replies.Reply.{Reply}
-use Rattle.calls.specs.Calls.{begun, takeAt}
+use Rattle.calls.specs.Calls.{begun, take_at}
 
 -- a run over replies, to its end
 unfoldable pub along : Plan → List Reply → State → State
 along p [] s = s
-along p (x ∷ xs) s = if s.run.ended then s else along p xs (takeAt p x s)
+along p (x ∷ xs) s = if s.run.ended then s else along p xs (take_at p x s)
 
 -- a block declared with k words
 abbrev pub asking : ℕ → Transfer → Transfer
@@ -30,9 +30,9 @@ asking k (Enhanced q a n) = Enhanced q a k
 asking k (Inline q a word) = Inline q a word
 
 -- its visit; a block of no words is left out
-abbrev pub shortVisit : ℕ → Visit → Command → List Visit
-shortVisit zero v c = []
-shortVisit (suc k) v c =
+abbrev pub short_visit : ℕ → Visit → Command → List Visit
+short_visit zero v c = []
+short_visit (suc k) v c =
     record { spot = v.spot; place = v.place; instruction = Camac (record { transfer = asking (suc k) c.transfer; wide = c.wide; ad = c.ad }) } ∷ []
 
 -- all but operations and status, which the reply that closes the block adds to
@@ -71,14 +71,14 @@ pub record ShortBlock (p : Plan) (incoming outgoing : List ℕ) (replies : List 
   pub comes : (along p earlier (begun p incoming outgoing)).run ≡ waiting
   pub going : waiting.ended ≡ false
   pub here : waiting.spot ≡ visit.spot
-  pub no-cause : code_of p.limit command waiting closing ≡ 0
-  pub closes : closedBy command.transfer closing ≡ true
+  pub no_cause : code_of p.limit command waiting closing ≡ 0
+  pub closes : closed_by command.transfer closing ≡ true
 
 -- the walk with that block declared with just the words that were moved, n less the words left
 abbrev pub declared : {p : Plan} {incoming outgoing : List ℕ} {replies : List Reply} → ShortBlock p incoming outgoing replies → Plan
 declared {p} b = record {
   limit = p.limit;
-  visits = b.before ++ (shortVisit (words_of b.command.transfer - b.waiting.left) b.visit b.command ++ b.after);
+  visits = b.before ++ (short_visit (words_of b.command.transfer - b.waiting.left) b.visit b.command ++ b.after);
 }
 
 -- a walk and replies with some of the closed blocks declared so, one after the other, and without the replies that closed them

@@ -4,12 +4,12 @@ use Rattle.std.specs.Prelude.{ℕ, Bool, List, [], ◌∷◌}
 use Rattle.base.specs.Checks.{if◌then◌else◌}
 use Rattle.qmodes.specs.declared.modes.QMode.{QMode}
 use Rattle.reply.specs.declared.records.Record.{Record}
-use Rattle.qmodes.specs.Modes.{slowestQ}
+use Rattle.qmodes.specs.Modes.{slowest_q}
 
 -- whether the slowest answer at a record has Q = 1
-abbrev pub slowestAt : ℕ → QMode → Record → Bool
-slowestAt limit q r = slowestQ limit q r.left r.tries r.position
+abbrev pub slowest_at : ℕ → QMode → Record → Bool
+slowest_at limit q r = slowest_q limit q r.left r.tries r.position
 
 -- its eight bytes: an answer with X = 1 and data 0
-unfoldable pub slowestReply : ℕ → QMode → Record → List ℕ
-slowestReply limit q r = 0 ∷ (if slowestAt limit q r then 3 else 2) ∷ 0 ∷ 0 ∷ 0 ∷ 0 ∷ 0 ∷ 0 ∷ []
+unfoldable pub slowest_reply : ℕ → QMode → Record → List ℕ
+slowest_reply limit q r = 0 ∷ (if slowest_at limit q r then 3 else 2) ∷ 0 ∷ 0 ∷ 0 ∷ 0 ∷ 0 ∷ 0 ∷ []

@@ -208,7 +208,7 @@ mod tests {
     #[test]
     fn declarations_of_antt() {
         let declared = [
-            ("unfoldable pub worstWords : ℕ → ℕ", "worstWords"),
+            ("unfoldable pub worst_words : ℕ → ℕ", "worst_words"),
             ("abbrev pub _sets_ : Bool → ℕ → StatusBit", "_sets_"),
             ("pub record Plan : Type 0 where", "Plan"),
             (
@@ -222,11 +222,11 @@ mod tests {
             assert!(antt_declares(line, name), "{name}");
         }
         assert!(!antt_declares(
-            "worstWords limit Stop p n = n",
-            "worstWords"
+            "worst_words limit Stop p n = n",
+            "worst_words"
         ));
-        assert!(!antt_declares("-- worstWords : a comment", "worstWords"));
-        assert!(!antt_declares("use walk.Worst.{worstWords}", "worstWords"));
+        assert!(!antt_declares("-- worst_words : a comment", "worst_words"));
+        assert!(!antt_declares("use walk.Worst.{worst_words}", "worst_words"));
     }
 
     #[test]
@@ -248,7 +248,7 @@ mod tests {
     #[test]
     fn names_of_this_repository() {
         let root = crate::repository::root();
-        let right = "`camac/specs/Words:wordsOf` `camac/src/words:decode` `.ci/run` `qmodes/src/scan:ScanPosition::after_done`";
+        let right = "`camac/specs/Words:words_of` `camac/src/words:decode` `.ci/run` `qmodes/src/scan:ScanPosition::after_done`";
         assert_eq!(name_faults(&root, right), Vec::<String>::new());
         let wrong =
             "`camac/specs/Words:noSuchName`\n`camac/specs/NoSuchFile:x`\n`docs/no-such-file.md`";

@@ -436,7 +436,7 @@ fn two() -> u8
         );
         let found = changes("acceptance/definitions/bit_29_passes");
         assert!(
-            found.contains("scalers/specs/Scalers:isHighSet"),
+            found.contains("scalers/specs/Scalers:is_high_set"),
             "{found:?}"
         );
     }

@@ -36,7 +36,7 @@ fn definitions_rest_on_definitions() {
 #[test]
 fn such_lines_are_seen() {
     for line in [
-        "use Rattle·walk.specs.model.Sums.{restFrom}",
+        "use Rattle·walk.specs.model.Sums.{rest_from}",
         "use Rattle·step·specs.specs.model.Place.{Alive}",
         "use Rattle·walk.proofs.Rest.{OnWalk}",
     ] {

@@ -1,7 +1,7 @@
--- `after_wait` is `afterWait`: each Q-mode's arm is its clause.
+-- `after_wait` is `after_wait`: each Q-mode's arm is its clause.
 use borrow.Author.Rules.{rules}
-use Rattle.qmodes.specs.Modes.{triesAfter}
-use Rattle.answers.specs.model.Visit.{afterWait}
+use Rattle.qmodes.specs.Modes.{tries_after}
+use Rattle.answers.specs.model.Visit.{after_wait}
 use Rattle.answers.proofs.after_wait.Statement.{statement}
 use Rattle.answers.proofs.after_wait.Tie as tie
 
@@ -36,19 +36,19 @@ waited-requires-4 : tie.Need-waited-requires-4
 waited-requires-4 c κs = search rules
 
 returns : tie.Need-returns
-unfolding afterWait triesAfter
+unfolding after_wait tries_after
 returns c = rw (c.waited.ensures, c.before.enum_told.given.1)
 
 returns-2 : tie.Need-returns-2
-unfolding afterWait triesAfter
+unfolding after_wait tries_after
 returns-2 c = rw (c.waited2.ensures, c.before.enum-told2.given.1)
 
 returns-3 : tie.Need-returns-3
-unfolding afterWait triesAfter
+unfolding after_wait tries_after
 returns-3 c = rw (c.waited3.ensures, c.before.before.enum-told3.given.1)
 
 returns-4 : tie.Need-returns-4
-unfolding afterWait triesAfter
+unfolding after_wait tries_after
 returns-4 c = rw (c.waited4.ensures, c.before.place-after-wait.ensures, c.before.before.enum-told4.given.1)
 
 pub after-wait-spec : {M : Type 1} → statement M

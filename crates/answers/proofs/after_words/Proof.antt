@@ -1,4 +1,4 @@
--- `after_words` is `afterWords`, by `behind_words` with the marks behind them.
+-- `after_words` is `after_words`, by `behind_words` with the marks behind them.
 use borrow.Author.Rules.{rules}
 use Rattle.answers.proofs.after_words.Statement.{statement}
 use Rattle.answers.proofs.after_words.Tie as tie

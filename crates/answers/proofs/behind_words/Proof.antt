@@ -1,7 +1,7 @@
--- `behind_words` is `afterWords`, field by field.
+-- `behind_words` is `after_words`, field by field.
 use mathlib.Core.Path.{sym, subst}
-use Rattle.answers.proofs.VisitRoom.{note-room}
-use Rattle.answers.specs.model.Visit.{NoteRoom, afterWords}
+use Rattle.answers.proofs.VisitRoom.{note_room}
+use Rattle.answers.specs.model.Visit.{NoteRoom, after_words}
 use borrow.Author.Rules.{rules}
 use Rattle.answers.proofs.behind_words.Statement.{statement}
 use Rattle.answers.proofs.behind_words.Tie as tie
@@ -19,10 +19,10 @@ note-behind-requires : tie.Need-note-behind-requires
 note-behind-requires c κs =
     let start = c.before.before.before.before in
     subst (NoteRoom start.args.rules.direction start.args.rules.wide) (sym start.requires.1.1.1.1.1)
-    (note-room start.args.rules.direction start.args.rules.wide start.args.words start.args.here.marks start.requires.0)
+    (note_room start.args.rules.direction start.args.rules.wide start.args.words start.args.here.marks start.requires.0)
 
 returns : tie.Need-returns
-unfolding afterWords
+unfolding after_words
 returns c = rw (
   c.note-behind.ensures,
   c.before.place-after-words.ensures,

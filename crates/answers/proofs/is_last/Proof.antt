@@ -4,10 +4,10 @@ use mathlib.Core.Path.{refl, sym, ap₂, ◌∙◌}
 use mathlib.Core.Bool.{true, false≢true}
 use native.Mathlib.Omega.{arith}
 use borrow.Author.Rules.{rules}
-use Rattle.qmodes.specs.model.Answers.{wordFlags}
-use Rattle.row.specs.model.Words.{flagsAt}
-use Rattle.answers.specs.model.Visit.{rulesIn}
-use Rattle.answers.proofs.VisitRoom.{word-numbered, ahead-last, one_word}
+use Rattle.qmodes.specs.model.Answers.{word_flags}
+use Rattle.row.specs.model.Words.{flags_at}
+use Rattle.answers.specs.model.Visit.{rules_in}
+use Rattle.answers.proofs.VisitRoom.{word_numbered, ahead_last, one_word}
 use Rattle.answers.proofs.is_last.Statement.{statement}
 use Rattle.answers.proofs.is_last.Tie as tie
 
@@ -34,10 +34,10 @@ returns-3 c = λ t.
     let start = c.before.before.before.before.before.before.before.before.before in
     let at-flags = c.before in
     let one = c.before.before.before.before.before.before.if1.false in
-    let mask = at-flags.word_Flags.ensures ∙ ap₂ wordFlags at-flags.before.before.numbered-qmode.ensures at-flags.before.has-ad.ensures in
-    let word = word-numbered start.args.first (flagsAt start.args.row.now start.args.here.taken) _ mask (sym c.is-word-at.ensures ∙ t) in (
+    let mask = at-flags.word_Flags.ensures ∙ ap₂ word_flags at-flags.before.before.numbered-qmode.ensures at-flags.before.has-ad.ensures in
+    let word = word_numbered start.args.first (flags_at start.args.row.now start.args.here.taken) _ mask (sym c.is-word-at.ensures ∙ t) in (
       one,
-      one_word _ _ _ _ (ahead-last (rulesIn start.args.first).q start.args.here.position start.args.here.left one)
+      one_word _ _ _ _ (ahead_last (rules_in start.args.first).q start.args.here.position start.args.here.left one)
           (omega (arith, c.before.before.before.before.if2.false)) true (sym word) refl,
     )
 

@@ -1,5 +1,5 @@
 -- `last_word` stores the word of a read, and the mark of its direction is behind it; a write and a control store nothing.
-use Rattle.answers.proofs.VisitRoom.{marks-to, read_one, words_left, read-mark, written-mark, mark-one, bytes_one, bytes-by}
+use Rattle.answers.proofs.VisitRoom.{marks_to, read_one, words_left, read_mark, written_mark, mark_one, bytes_one, bytes_by_lem}
 use native.Mathlib.Omega.{arith}
 use mathlib.Core.Path.{refl, ◌∙◌}
 use borrow.Author.Rules.{rules}
@@ -12,7 +12,7 @@ enum_told c = search rules
 read-word-requires : tie.Need-read-word-requires
 read-word-requires c κs = let p = c.before.before.before.before.before.before.requires in (
   read_one _ _ _ _ _ p.0 (words_left _ _ _ _ _ p.0 1 p.1) c.before.enum_told.given.1,
-  (omega (arith, p.1.answered, p.0.within), (p.0.row-formed, p.2)),
+  (omega (arith, p.1.answered, p.0.within), (p.0.row_formed, p.2)),
 )
 
 enum-told-2 : tie.Need-enum-told-2
@@ -20,7 +20,7 @@ enum-told-2 c = search rules
 
 mark-behind-requires : tie.Need-mark-behind-requires
 mark-behind-requires c κs =
-    let m = marks-to _ _ _ _ _ c.before.before.before.before.before.requires.0 in (omega arith, (m.outgoing, m.even.outgoing))
+    let m = marks_to _ _ _ _ _ c.before.before.before.before.before.requires.0 in (omega arith, (m.outgoing, m.even.outgoing))
 
 enum-told-3 : tie.Need-enum-told-3
 enum-told-3 c = search rules
@@ -31,14 +31,14 @@ same_length c = search rules
 returns : tie.Need-returns
 returns c =
     let e = c.before.before.before.before.enum_told.given.1 in
-    let w = c.before.before.read_word.ensures in (read-mark _ _ _ _ 1 e (w.0 ∙ mark-one _ _), bytes_one _ _ _ _ _ e w.1)
+    let w = c.before.before.read_word.ensures in (read_mark _ _ _ _ 1 e (w.0 ∙ mark_one _ _), bytes_one _ _ _ _ _ e w.1)
 
 returns-2 : tie.Need-returns-2
 returns-2 c =
-    let e = c.before.enum-told2.given.1 in (written-mark _ _ _ _ 1 e c.mark-behind.ensures, bytes-by _ _ _ _ 1 _ _ e refl)
+    let e = c.before.enum-told2.given.1 in (written_mark _ _ _ _ 1 e c.mark-behind.ensures, bytes_by_lem _ _ _ _ 1 _ _ e refl)
 
 returns-3 : tie.Need-returns-3
-returns-3 c = let e = c.enum-told3.given.1 in (rw e, bytes-by _ _ _ _ 1 _ _ e refl)
+returns-3 c = let e = c.enum-told3.given.1 in (rw e, bytes_by_lem _ _ _ _ 1 _ _ e refl)
 
 pub last-word-spec : {M : Type 1} → statement M
 last-word-spec =

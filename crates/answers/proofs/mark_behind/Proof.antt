@@ -1,4 +1,4 @@
--- `mark_behind` is `markAfterWords`.
+-- `mark_behind` is `mark_after_words`.
 use borrow.Author.Rules.{rules}
 use Rattle.answers.proofs.mark_behind.Statement.{statement}
 use Rattle.answers.proofs.mark_behind.Tie as tie

@@ -1,4 +1,4 @@
--- `marks_behind` is `marksBehind`: each arm is a clause of it.
+-- `marks_behind` is `marks_behind`: each arm is a clause of it.
 use borrow.Author.Rules.{rules}
 use Rattle.answers.proofs.marks_behind.Statement.{statement}
 use Rattle.answers.proofs.marks_behind.Tie as tie

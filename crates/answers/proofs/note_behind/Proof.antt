@@ -1,4 +1,4 @@
--- `note_behind` is `noteBehind`: each arm is a clause of it.
+-- `note_behind` is `note_behind`: each arm is a clause of it.
 use native.Mathlib.Omega.{arith}
 use borrow.Author.Rules.{rules}
 use Rattle.answers.proofs.note_behind.Statement.{statement}

@@ -1,7 +1,7 @@
--- `rules_in` is `rulesIn`, field by field: each is what the bits of the first longword say of it.
+-- `rules_in` is `rules_in`, field by field: each is what the bits of the first longword say of it.
 use borrow.Author.Rules.{rules}
-use Rattle.camac.proofs.BitLaws.{command-qmode, command-wide, command-ad}
-use Rattle.answers.specs.model.Visit.{rulesOf, rulesIn}
+use Rattle.camac.proofs.BitLaws.{command_qmode, command_wide, command_ad}
+use Rattle.answers.specs.model.Visit.{rules_of, rules_in}
 use Rattle.answers.proofs.rules_in.Statement.{statement}
 use Rattle.answers.proofs.rules_in.Tie as tie
 
@@ -21,12 +21,12 @@ word-flags-requires : tie.Need-word-flags-requires
 word-flags-requires c κs = search rules
 
 returns : tie.Need-returns
-unfolding rulesOf rulesIn
+unfolding rules_of rules_in
 returns c =
     rw (
-      command-qmode,
-      command-wide,
-      command-ad,
+      command_qmode,
+      command_wide,
+      command_ad,
       c.word_Flags.ensures,
       c.before.is_IsWide.ensures,
       c.before.before.has-ad.ensures,

@@ -2,18 +2,18 @@
 use mathlib.Core.Path.{◌≡◌, refl, sym, subst}
 use native.Mathlib.Omega.{arith}
 use borrow.Author.Rules.{rules}
-use Rattle.answers.specs.model.Visit.{rulesIn, Words, none, Roomy}
+use Rattle.answers.specs.model.Visit.{rules_in, Words, none, Roomy}
 use Rattle.answers.specs.declared.Rules.{Rules}
-use Rattle.answers.proofs.VisitRoom.{passed-as, words-with, words-turn}
+use Rattle.answers.proofs.VisitRoom.{passed_as, words_with, words_turn}
 use Rattle.answers.proofs.visit.Statement.{statement}
 use Rattle.answers.proofs.visit.Tie as tie
 
 -- what is known by the first longword, by the rules that were made of it
-roomy : (s : tie.Start) (x : Rules) → x ≡ rulesIn s.args.first
+roomy : (s : tie.Start) (x : Rules) → x ≡ rules_in s.args.first
     → Roomy x s.args.row.now s.args.answers s.args.from s.args.incoming.now
 roomy s x e = subst (λ (y : Rules). Roomy y s.args.row.now s.args.answers s.args.from s.args.incoming.now) (sym e) s.requires.1.1
 
-last : (c : tie.Then1) (x : Rules) → x ≡ rulesIn c.before.before.before.before.args.first
+last : (c : tie.Then1) (x : Rules) → x ≡ rules_in c.before.before.before.before.args.first
     → Words x c.before.before.before.before.args.row.now c.before.before.before.before.args.answers
     c.before.before.before.before.args.from 1
 last c x e =
@@ -36,7 +36,7 @@ behind-words-requires : tie.Need-behind-words-requires
 behind-words-requires c κs =
     let s = c.before.before.before.before.before.before.before.before.before in
     let e = c.before.before.before.before.rules-in.ensures in
-    words-with _ _ _ _ _ (roomy s _ e) _ (last c.before.before.before.before.before _ e) (omega (arith, s.requires.1.1.taken))
+    words_with _ _ _ _ _ (roomy s _ e) _ (last c.before.before.before.before.before _ e) (omega (arith, s.requires.1.1.taken))
     c.before.before.last_word.ensures.0
 
 same_length : tie.Need-same-length
@@ -46,8 +46,8 @@ returns : tie.Need-returns
 returns c =
     let s = c.before.before.before.before.before.before.before.before.before.before in
     let e = c.before.before.before.before.before.rules-in.ensures in
-    passed-as e
-    (words-turn _ _ _ _ _ _ _ _ none (roomy s _ e) refl 1 (last c.before.before.before.before.before.before _ e) _
+    passed_as e
+    (words_turn _ _ _ _ _ _ _ _ none (roomy s _ e) refl 1 (last c.before.before.before.before.before.before _ e) _
     c.behind-words.ensures _ c.before.before.before.last_word.ensures.1).0
 
 rules-in-requires-2 : tie.Need-rules-in-requires-2
@@ -61,7 +61,7 @@ same-length-2 : tie.Need-same-length-2
 same-length-2 c = search rules
 
 returns-2 : tie.Need-returns-2
-returns-2 c = passed-as c.before.before.before.before.rules-in2.ensures c.before.before.visit-on.ensures
+returns-2 c = passed_as c.before.before.before.before.rules-in2.ensures c.before.before.visit-on.ensures
 
 pub visit-spec : {M : Type 1} → statement M
 visit-spec =

@@ -7,7 +7,7 @@ use borrow.Author.Rules.{rules}
 use borrow.Author.Tests.{not-false}
 use lib.ListN.{length}
 use Rattle.answers.specs.model.Visit.{Passed, none, Roomy}
-use Rattle.answers.proofs.VisitRoom.{one_word, words-turn, wait-turn, words-taken, wait-taken}
+use Rattle.answers.proofs.VisitRoom.{one_word, words_turn, wait_turn, words_taken, wait_taken}
 use Rattle.answers.proofs.visit_on.Statement.{statement}
 use Rattle.answers.proofs.visit_on.Tie as tie
 
@@ -63,13 +63,13 @@ take-words-requires c κs =
 
 loop-less : tie.Need-loop-smaller invariant-loop decreases-loop
 loop-less c =
-    let t = c.before.before.take_words.ensures in omega (arith, t.words.some, t.words.answered, (words-taken _ _ _ _ t.behind).0)
+    let t = c.before.before.take_words.ensures in omega (arith, t.words.some, t.words.answered, (words_taken _ _ _ _ t.behind).0)
 
 loop-again : tie.Need-loop-preserved invariant-loop decreases-loop
 loop-again c =
     let i = c.before.before.before.before.before.before.before.before.before.before.before.before.before.before.loop.invariant in
     let t = c.before.before.take_words.ensures in
-    words-turn _ _ _ _ _ _ _ _ i.0 i.1.0 i.1.1 _ t.words _ t.behind _ t.bytes
+    words_turn _ _ _ _ _ _ _ _ i.0 i.1.0 i.1.1 _ t.words _ t.behind _ t.bytes
 
 is-wait-requires : tie.Need-is-wait-requires invariant-loop decreases-loop
 is-wait-requires c κs =
@@ -90,12 +90,12 @@ after-wait-requires c κs =
     let m = at-loop.loop.invariant.1.0 in (m.tries, (omega (arith, m.taken, at-loop.before.before.before.well-formed.1.1.1.1.0.1), m.position))
 
 loop-less-2 : tie.Need-loop-smaller-2 invariant-loop decreases-loop
-loop-less-2 c = omega (arith, c.before.before.before.before.before.if2.false, (wait-taken _ _ _ c.after-wait.ensures).0)
+loop-less-2 c = omega (arith, c.before.before.before.before.before.if2.false, (wait_taken _ _ _ c.after-wait.ensures).0)
 
 loop-again-2 : tie.Need-loop-preserved-2 invariant-loop decreases-loop
 loop-again-2 c =
     let i = c.before.before.before.before.before.before.before.before.before.loop.invariant in
-    wait-turn _ _ _ _ _ _ _ _ i.0 i.1.0 i.1.1 c.before.before.before.before.before.before.before.before.before.before.before.before.requires.0
+    wait_turn _ _ _ _ _ _ _ _ i.0 i.1.0 i.1.1 c.before.before.before.before.before.before.before.before.before.before.before.before.requires.0
     (c.before.before.is-wait.ensures (not-false _ c.before.if5.false)) _ c.after-wait.ensures
 
 same-length-4 : tie.Need-same-length-4 invariant-loop decreases-loop

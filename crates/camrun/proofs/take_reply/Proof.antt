@@ -192,7 +192,7 @@ module _ {M : Type 1} {𝓤 : Ura M} (𝓛 : Logic 𝓤) (at_mem : Memory → SP
   exits r w zs e n g iy =
       qed 𝓛 ((‵ (flft κ₀ q₀) ⊛ ‵ (flft κ₁ q₁) ⊛ ‵ (flft κ₂ q₂) ⊛ ‵ (flft κ₃ q₃) ⊛ ‵ ftrue) ∷ ‵ (finally u8 γx zs) ∷ ‵ OwnL ∷ ‵ OwnP ∷ ‵ OwnU ∷ []) ∵
       suffices ! _ (ends_at 𝓛 self.ended stayed (self.clauses 𝓛 at_mem run) ((κs, qs, tt, a, vals), tt) (mach-yield r w) (yielded r w) (tt, (tt, (zs, (tt, (tt, tt))))) (tt, (tt, (n, (tt, (tt, tt)))))) $
-      says ! (record { answer = λ i. record { refusal = (e.answer i).refusal; run = e.run i; wanted = (e.answer i).wanted }; incoming-bytes = e.incoming-bytes; outgoing-bytes = e.outgoing-bytes }) $
+      says ! (record { answer = λ i. record { refusal = (e.answer i).refusal; run = e.run i; wanted = (e.answer i).wanted }; incoming_bytes = e.incoming_bytes; outgoing_bytes = e.outgoing_bytes }) $
       frame ! $
       -- [the last list; l's; p's; u's]
       nothing ! $ move ! (3 ∷ 0 ∷ []) $ fjoin ! $ move ! (3 ∷ 0 ∷ []) $ fjoin ! $ move ! (1 ∷ 0 ∷ []) $ fjoin ! $ owned ! R (Is R) (LL.makes T.the_type T'.the_plain 𝓛) h _ g $ fjoin ! $ move ! (1 ∷ 0 ∷ []) $ fjoin ! $ frame ! $

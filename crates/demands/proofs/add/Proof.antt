@@ -1,11 +1,11 @@
--- `add` is `addOf`: refused, the queue as it was; else with the demand added.
+-- `add` is `add_of`: refused, the queue as it was; else with the demand added.
 use mathlib.Core.Path.{sym, ap₂, ◌∙◌}
 use mathlib.Core.Bool.{◌&&◌}
 use borrow.Author.Rules.{rules}
 use borrow.Author.Tests.{not-true, not-false}
 use Rattle.base.proofs.Bools.{and_left}
 use Rattle.demands.proofs.LayoutLaws.{limits}
-use Rattle.demands.proofs.CallLaws.{add-refused, add_left, refused-parts, left-parts}
+use Rattle.demands.proofs.CallLaws.{add_refused, add_left, refused_parts, left_parts}
 use Rattle.demands.proofs.add.Statement.{statement}
 use Rattle.demands.proofs.add.Tie as tie
 
@@ -25,7 +25,7 @@ returns : tie.Need-returns
 returns c =
     let at_test = c.before.before in
     let test = ap₂ ◌&&◌ (sym at_test.before.is-queue.ensures) (sym at_test.is-crate.ensures) ∙ not-true _ c.before.if1.true in
-    refused-parts (add-refused _ _ test) c.refused.ensures
+    refused_parts (add_refused _ _ test) c.refused.ensures
 
 add-one-requires : tie.Need-add-one-requires
 add-one-requires c κs =
@@ -47,7 +47,7 @@ returns-2 c =
     let at-add = c.before.before.before.before in
     let at_test = at-add.before.before.before in
     let test = ap₂ ◌&&◌ (sym at_test.before.is-queue.ensures) (sym at_test.is-crate.ensures) ∙ not-false _ at-add.before.before.if1.false in
-    left-parts (add_left _ _ test) at-add.add-one.ensures c.answer-of.ensures
+    left_parts (add_left _ _ test) at-add.add-one.ensures c.answer-of.ensures
 
 pub add_spec : {M : Type 1} → statement M
 add_spec =

@@ -4,9 +4,9 @@ use mathlib.Core.Bool.{◌&&◌}
 use borrow.Author.Rules.{rules}
 use borrow.Author.Tests.{not-true, not-false}
 use Rattle.base.proofs.Bools.{and_left, and_right}
-use Rattle.demands.proofs.RowLaws.{even-row}
+use Rattle.demands.proofs.RowLaws.{even_row}
 use Rattle.demands.proofs.LayoutLaws.{limits}
-use Rattle.demands.proofs.CallLaws.{row-refused, row-left, refused-parts, left-parts}
+use Rattle.demands.proofs.CallLaws.{row_refused, row_left, refused_parts, left_parts}
 use Rattle.demands.proofs.add_row.Statement.{statement}
 use Rattle.demands.proofs.add_row.Tie as tie
 
@@ -26,14 +26,14 @@ returns : tie.Need-returns
 returns c =
     let at_test = c.before.before in
     let test = ap₂ ◌&&◌ (sym at_test.before.is-queue.ensures) (sym at_test.is_row.ensures) ∙ not-true _ c.before.if1.true in
-    refused-parts (row-refused _ _ test) c.refused.ensures
+    refused_parts (row_refused _ _ test) c.refused.ensures
 
 add-all-requires : tie.Need-add-all-requires
 add-all-requires c κs =
     let at-if = c.before in
     let both = not-false _ at-if.if1.false in (
       sym at-if.before.before.is-queue.ensures ∙ and_left _ at-if.before.is_row.result both,
-      even-row _ (sym at-if.before.is_row.ensures ∙ and_right at-if.before.before.is-queue.result _ both),
+      even_row _ (sym at-if.before.is_row.ensures ∙ and_right at-if.before.before.is-queue.result _ both),
     )
 
 answer-of-requires : tie.Need-answer-of-requires
@@ -51,7 +51,7 @@ returns-2 c =
     let at-add = c.before.before.before.before in
     let at_test = at-add.before.before.before in
     let test = ap₂ ◌&&◌ (sym at_test.before.is-queue.ensures) (sym at_test.is_row.ensures) ∙ not-false _ at-add.before.before.if1.false in
-    left-parts (row-left _ _ test) at-add.add-all.ensures c.answer-of.ensures
+    left_parts (row_left _ _ test) at-add.add-all.ensures c.answer-of.ensures
 
 pub add-row-spec : {M : Type 1} → statement M
 add-row-spec =

@@ -1,5 +1,5 @@
 -- `answer_of` reads how many wait, and the mark.
-use Rattle.base.specs.Bytes.{byteAt}
+use Rattle.base.specs.Bytes.{byte_at}
 use borrow.Author.Rules.{rules}
 use Rattle.demands.proofs.answer_of.Statement.{statement}
 use Rattle.demands.proofs.answer_of.Tie as tie
@@ -11,7 +11,7 @@ shared-slice-read-t5 : tie.Need-shared-slice-read-t5
 shared-slice-read-t5 c = search rules
 
 returns : tie.Need-returns
-unfolding byteAt
+unfolding byte_at
 returns c = rw c.before.waiting-in.ensures.0
 
 pub answer-of-spec : {M : Type 1} → statement M

@@ -1,11 +1,11 @@
--- `clear` is `clearOf`: refused, the queue as it was; else none waits and the mark is off.
+-- `clear` is `clear_of`: refused, the queue as it was; else none waits and the mark is off.
 use mathlib.Core.Path.{refl, sym, ◌∙◌}
 use native.Mathlib.Omega.{arith}
 use borrow.Author.Rules.{rules}
 use borrow.Author.Tests.{not-true, not-false}
 use lib.ListN.{length-set}
 use Rattle.demands.proofs.LayoutLaws.{limits}
-use Rattle.demands.proofs.CallLaws.{clear-refused, clear-left, refused-parts, left-parts}
+use Rattle.demands.proofs.CallLaws.{clear_refused, clear_left, refused_parts, left_parts}
 use Rattle.demands.proofs.clear.Statement.{statement}
 use Rattle.demands.proofs.clear.Tie as tie
 
@@ -19,7 +19,7 @@ same_length : tie.Need-same-length
 same_length c = search rules
 
 returns : tie.Need-returns
-returns c = refused-parts (clear-refused _ (sym c.before.before.is-queue.ensures ∙ not-true _ c.before.if1.true)) c.refused.ensures
+returns c = refused_parts (clear_refused _ (sym c.before.before.is-queue.ensures ∙ not-true _ c.before.if1.true)) c.refused.ensures
 
 slice-write-queue : tie.Need-slice-write-queue
 slice-write-queue c = omega (arith, (limits _ (sym c.before.is-queue.ensures ∙ not-false _ c.if1.false)).long)
@@ -42,7 +42,7 @@ returns-2 : tie.Need-returns-2
 returns-2 c =
     let at-put = c.before.before.before.before in
     let at-if = at-put.before.before in
-    left-parts (clear-left _ (sym at-if.before.is-queue.ensures ∙ not-false _ at-if.if1.false)) at-put.set-waiting.ensures c.answer-of.ensures
+    left_parts (clear_left _ (sym at-if.before.is-queue.ensures ∙ not-false _ at-if.if1.false)) at-put.set-waiting.ensures c.answer-of.ensures
 
 pub clear_spec : {M : Type 1} → statement M
 clear_spec =

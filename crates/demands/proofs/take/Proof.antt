@@ -4,7 +4,7 @@ use borrow.Author.Rules.{rules}
 use borrow.Author.Tests.{not-true, not-false}
 use Rattle.demands.specs.Demands.{Outcome, answer_in}
 use Rattle.demands.proofs.LayoutLaws.{limits}
-use Rattle.demands.proofs.CallLaws.{take-refused, take_left, taken-answer}
+use Rattle.demands.proofs.CallLaws.{take_refused, take_left, taken_answer}
 use Rattle.demands.proofs.take.Statement.{statement}
 use Rattle.demands.proofs.take.Tie as tie
 
@@ -19,7 +19,7 @@ same_length c = search rules
 
 returns : tie.Need-returns
 returns c =
-    let refused = sym (take-refused _ (sym c.before.before.is-queue.ensures ∙ not-true _ c.before.if1.true)) in
+    let refused = sym (take_refused _ (sym c.before.before.is-queue.ensures ∙ not-true _ c.before.if1.true)) in
     (c.refused.ensures ∙ ap (λ (o : Outcome). o.queued) refused, (ap (λ (o : Outcome). o.next) refused, ap (λ (o : Outcome). o.queue) refused))
 
 take-oldest-requires : tie.Need-take-oldest-requires
@@ -40,7 +40,7 @@ returns-2 c =
     let at-if = at_take.before.before in
     let taken = sym (take_left _ (sym at-if.before.is-queue.ensures ∙ not-false _ at-if.if1.false)) in
     let bytes = at_take.take-oldest.ensures.1 in (
-      c.answer-of.ensures ∙ ap answer_in bytes ∙ taken-answer _ ∙ ap (λ (o : Outcome). o.queued) taken,
+      c.answer-of.ensures ∙ ap answer_in bytes ∙ taken_answer _ ∙ ap (λ (o : Outcome). o.queued) taken,
       (at_take.take-oldest.ensures.0 ∙ ap (λ (o : Outcome). o.next) taken, bytes ∙ ap (λ (o : Outcome). o.queue) taken),
     )
 

@@ -1,7 +1,7 @@
 -- The table has 4,096 entries, and the checks passed say of it what the walk asks.
 use borrow.Author.Rules.{rules}
 use native.Mathlib.Omega.{arith}
-use Rattle.walk.proofs.PrepareLaws.{table-passed}
+use Rattle.walk.proofs.PrepareLaws.{table_passed}
 use Rattle.explain.proofs.explain.Statement.{statement}
 use Rattle.explain.proofs.explain.Tie as tie
 
@@ -45,7 +45,7 @@ print-walk-requires : tie.Need-print-walk-requires
 print-walk-requires c κs =
     let at-checked = c.before.before.before in
     let at-check-list = at-checked.before.before.before.before.before.before.before.before in
-    let passed = table-passed _ _ _ _ at-checked.checked2.given.1 at-check-list.check-list.ensures.1 in
+    let passed = table_passed _ _ _ _ at-checked.checked2.given.1 at-check-list.check-list.ensures.1 in
     (omega (arith, passed.0, at-check-list.check-list.auto.1.0), passed)
 
 slice-aggregate-explain-admitted : tie.Need-slice-aggregate-explain-admitted

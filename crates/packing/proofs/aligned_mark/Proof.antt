@@ -1,7 +1,7 @@
 -- `packing::aligned_mark` meets its contract: a remainder by 4 is at most 3, so the sum fits.
 use borrow.Author.Rules.{rules}
 use native.Mathlib.Omega.{arith}
-use Rattle.packing.specs.Packing.{padAt, alignedMark}
+use Rattle.packing.specs.Packing.{pad_at, aligned_mark}
 use Rattle.packing.proofs.aligned_mark.Statement.{statement}
 use Rattle.packing.proofs.aligned_mark.Tie as tie
 
@@ -9,11 +9,11 @@ add-result : tie.Need-overflow-add-result
 add-result c = search rules
 
 returns : tie.Need-returns
-unfolding alignedMark padAt
+unfolding aligned_mark pad_at
 returns c = (rw c.if1.true, omega arith)
 
 returns-2 : tie.Need-returns-2
-unfolding alignedMark padAt
+unfolding aligned_mark pad_at
 returns-2 c = (rw c.if1.false (omega arith), omega arith)
 
 pub aligned-mark-spec : {M : Type 1} → statement M

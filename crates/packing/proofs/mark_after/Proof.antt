@@ -1,7 +1,7 @@
 -- `packing::mark_after` meets its contract: the sum of what `aligned_mark` and `width_of` answer, at most 3 and 4 more than the mark.
 use borrow.Author.Rules.{rules}
 use native.Mathlib.Omega.{arith}
-use Rattle.packing.specs.Packing.{markAfter}
+use Rattle.packing.specs.Packing.{mark_after}
 use Rattle.packing.proofs.mark_after.Statement.{statement}
 use Rattle.packing.proofs.mark_after.Tie as tie
 
@@ -15,7 +15,7 @@ add-result : tie.Need-overflow-add-result
 add-result c = search rules
 
 returns : tie.Need-returns
-unfolding markAfter
+unfolding mark_after
 returns c = (
   simp (c.width_of_lem.ensures.0, c.before.aligned-mark.ensures.0),
   omega (arith, c.width_of_lem.ensures.1, c.before.aligned-mark.ensures.1),

@@ -1,22 +1,22 @@
--- `packing::mark_after_words` meets its contract by the closed form of the words' marks, `words-closed`: one pad before the first word, none after.
+-- `packing::mark_after_words` meets its contract by the closed form of the words' marks, `words_closed`: one pad before the first word, none after.
 use Prim.Native.Nat.{ℕ, zero, suc, ◌+◌, ◌*◌, ◌%◌}
 use mathlib.Core.Path.{◌≡◌}
 use mathlib.Core.Bool.{true, false}
 use native.Mathlib.Omega.{arith}
-use Rattle.packing.specs.Packing.{padAt, alignedMark, width_of, markAfterWords}
-use Rattle.packing.proofs.MarkFacts.{words-closed}
+use Rattle.packing.specs.Packing.{pad_at, aligned_mark, width_of, mark_after_words}
+use Rattle.packing.proofs.MarkFacts.{words_closed}
 use borrow.Author.Rules.{rules}
 use Rattle.packing.proofs.mark_after_words.Statement.{statement}
 use Rattle.packing.proofs.mark_after_words.Tie as tie
 
 -- 16-bit words have no pad, so that none of them needs no case of its own
-narrow : (words mark : ℕ) → mark % 2 ≡ 0 → markAfterWords false words mark ≡ mark + words * 2
-unfolding markAfterWords alignedMark padAt width_of
+narrow : (words mark : ℕ) → mark % 2 ≡ 0 → mark_after_words false words mark ≡ mark + words * 2
+unfolding mark_after_words aligned_mark pad_at width_of
 narrow zero mark h = omega arith
-narrow (suc n) mark h = rw (words-closed false (suc n) mark h (omega arith)) (omega arith)
+narrow (suc n) mark h = rw (words_closed false (suc n) mark h (omega arith)) (omega arith)
 
 returns : tie.Need-returns
-unfolding markAfterWords
+unfolding mark_after_words
 returns c = rw (c.before.if1.true, c.if2.true)
 
 add-result : tie.Need-overflow-add-result
@@ -29,9 +29,9 @@ add-result-2 : tie.Need-overflow-add-result-2
 add-result-2 c = search rules
 
 returns-2 : tie.Need-returns-2
-unfolding alignedMark padAt width_of
+unfolding aligned_mark pad_at width_of
 returns-2 c = let a = c.before.before.args in
-    rw (c.before.if1.true, words-closed true a.words a.mark c.before.before.requires.1.1 (omega (arith, c.if2.false)))
+    rw (c.before.if1.true, words_closed true a.words a.mark c.before.before.requires.1.1 (omega (arith, c.if2.false)))
 
 mul-result-2 : tie.Need-overflow-mul-result-2
 mul-result-2 c = search rules

@@ -2,7 +2,7 @@
 use mathlib.Core.Path.{sym, ◌∙◌}
 use native.Mathlib.Omega.{arith}
 use borrow.Author.Rules.{rules}
-use Rattle.packing.proofs.MarkFacts.{mark-narrow, mark-wide, aligned-above, stored-narrow, stored-over}
+use Rattle.packing.proofs.MarkFacts.{mark_narrow, mark_wide, aligned_above, stored_narrow, stored_over}
 use Rattle.packing.proofs.store.Statement.{statement}
 use Rattle.packing.proofs.store.Tie as tie
 
@@ -17,15 +17,15 @@ put-long-requires c κs =
     omega (
       arith,
       rw at-if1.if1.true at at-if1.before.before.requires,
-      mark-wide m,
-      aligned-above m,
+      mark_wide m,
+      aligned_above m,
       at-pad.pad.ensures.0,
       at-pad.pad.auto.0,
     )
 
 put-short-requires : tie.Need-put-short-requires
 put-short-requires c κs =
-    let start = c.before.before.before in omega (arith, rw c.before.if1.false at start.requires, mark-narrow start.args.mark)
+    let start = c.before.before.before in omega (arith, rw c.before.if1.false at start.requires, mark_narrow start.args.mark)
 
 same_length : tie.Need-same-length
 same_length c = search rules
@@ -34,14 +34,14 @@ returns : tie.Need-returns
 returns c =
     let at-pad = c.before.before.before.before.before.before in
     c.before.before.put-long.ensures
-    ∙ rw (at-pad.pad.ensures.0, at-pad.pad.ensures.1, at-pad.before.before.if1.true) (stored-over _ _ _)
+    ∙ rw (at-pad.pad.ensures.0, at-pad.pad.ensures.1, at-pad.before.before.if1.true) (stored_over _ _ _)
 
 same-length-2 : tie.Need-same-length-2
 same-length-2 c = search rules
 
 returns-2 : tie.Need-returns-2
 returns-2 c =
-    c.before.before.put-short.ensures ∙ rw c.before.before.before.before.if1.false (sym (stored-narrow _ _ _))
+    c.before.before.put-short.ensures ∙ rw c.before.before.before.before.if1.false (sym (stored_narrow _ _ _))
 
 pub store_spec : {M : Type 1} → statement M
 store_spec =

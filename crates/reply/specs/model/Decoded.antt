@@ -4,6 +4,6 @@ use Rattle.reply.specs.declared.replies.Reply.{Reply}
 use Rattle.reply.specs.declared.replies.Formed.{Formed}
 use Rattle.reply.specs.declared.replies.Formed.TheVariants as formed
 
-abbrev pub formedBy : Formed → Option Reply
-formedBy (formed.Reply r) = some r
-formedBy formed.NotFormed = none
+abbrev pub formed_by : Formed → Option Reply
+formed_by (formed.Reply r) = some r
+formed_by formed.NotFormed = none

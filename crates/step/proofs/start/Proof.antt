@@ -3,7 +3,7 @@ use mathlib.Core.Path.{refl}
 use native.Mathlib.Omega.{arith}
 use borrow.Author.Rules.{rules}
 use Rattle.step.proofs.PlanLaws.{going_start}
-use Rattle.step.proofs.StepLaws.{yields, prepared-ready, start-refused, start-asked, start-yields}
+use Rattle.step.proofs.StepLaws.{yields, prepared_ready, start_refused, start_asked, start_yields}
 use Rattle.step.proofs.start.Statement.{statement}
 use Rattle.step.proofs.start.Tie as tie
 
@@ -31,7 +31,7 @@ refuse-requires c κs = search rules
 returns : tie.Need-returns
 returns c =
     let at-prepare = c.before.before.before.before.before.before in
-    yields _ _ _ _ _ _ _ c.refuse.ensures (start-refused _ _ _ _ at-prepare.prepare.ensures.0 _ _
+    yields _ _ _ _ _ _ _ c.refuse.ensures (start_refused _ _ _ _ at-prepare.prepare.ensures.0 _ _
     c.before.before.before.enum_told.given.1 c.before.before.refusal-in.ensures _ c.before.zero-record.ensures)
 
 zero-record-requires-2 : tie.Need-zero-record-requires-2
@@ -47,7 +47,7 @@ run-on-requires : tie.Need-run-on-requires
 run-on-requires c κs =
     let at-zero-record2 = c.before.before.before in let at-prepared = at-zero-record2.before.before.before in
     let at-prepare = at-prepared.before.before.before in let at-shared-slice-known = at-prepare.before.before.before.before in
-    let x = prepared-ready _ _ _ _ at-prepare.prepare.ensures.0 _ at-prepare.prepare.ensures.1 _ at-prepared.prepared.given.1 (λ i. omega (arith, at-shared-slice-known.shared-slice-known.given i)) at-prepare.prepare.auto.1.0 in (
+    let x = prepared_ready _ _ _ _ at-prepare.prepare.ensures.0 _ at-prepare.prepare.ensures.1 _ at-prepared.prepared.given.1 (λ i. omega (arith, at-shared-slice-known.shared-slice-known.given i)) at-prepare.prepare.auto.1.0 in (
       omega (arith, x.entries, x.planned.few),
       (
         x.planned.few,
@@ -65,9 +65,9 @@ yield-of-requires : tie.Need-yield-of-requires
 yield-of-requires c κs =
     let at-run-on = c.before.before.before in let at-zero-record2 = at-run-on.before.before.before.before in
     let at-prepared = at-zero-record2.before.before.before in let at-prepare = at-prepared.before.before.before in
-    let at-shared-slice-known = at-prepare.before.before.before.before in let at-start = at-shared-slice-known.before in
-    let x = prepared-ready _ _ _ _ at-prepare.prepare.ensures.0 _ at-prepare.prepare.ensures.1 _ at-prepared.prepared.given.1 (λ i. omega (arith, at-shared-slice-known.shared-slice-known.given i)) at-prepare.prepare.auto.1.0 in
-    start-asked _ _ _ _ _ at-start.args.outgoing.now x _ at-zero-record2.zero-record2.ensures _ _
+    let at-shared-slice-known = at-prepare.before.before.before.before in let at_start = at-shared-slice-known.before in
+    let x = prepared_ready _ _ _ _ at-prepare.prepare.ensures.0 _ at-prepare.prepare.ensures.1 _ at-prepared.prepared.given.1 (λ i. omega (arith, at-shared-slice-known.shared-slice-known.given i)) at-prepare.prepare.auto.1.0 in
+    start_asked _ _ _ _ _ at_start.args.outgoing.now x _ at-zero-record2.zero-record2.ensures _ _
     (λ out. rw at-run-on.before.before.first-spot.ensures at (at-run-on.run_on.ensures.0 out))
 
 same_length : tie.Need-same-length
@@ -78,8 +78,8 @@ returns-2 c =
     let at-run-on = c.before.before.before.before in let at-zero-record2 = at-run-on.before.before.before.before in
     let at-prepared = at-zero-record2.before.before.before in let at-prepare = at-prepared.before.before.before in
     let at-shared-slice-known = at-prepare.before.before.before.before in
-    let x = prepared-ready _ _ _ _ at-prepare.prepare.ensures.0 _ at-prepare.prepare.ensures.1 _ at-prepared.prepared.given.1 (λ i. omega (arith, at-shared-slice-known.shared-slice-known.given i)) at-prepare.prepare.auto.1.0 in
-    yields _ _ _ _ _ _ _ c.yield-of.ensures (start-yields _ _ _ _ _ _ x _ at-zero-record2.zero-record2.ensures _ _
+    let x = prepared_ready _ _ _ _ at-prepare.prepare.ensures.0 _ at-prepare.prepare.ensures.1 _ at-prepared.prepared.given.1 (λ i. omega (arith, at-shared-slice-known.shared-slice-known.given i)) at-prepare.prepare.auto.1.0 in
+    yields _ _ _ _ _ _ _ c.yield-of.ensures (start_yields _ _ _ _ _ _ x _ at-zero-record2.zero-record2.ensures _ _
     (λ out. rw at-run-on.before.before.first-spot.ensures at (at-run-on.run_on.ensures.0 out)))
 
 pub start_spec : {M : Type 1} → statement M

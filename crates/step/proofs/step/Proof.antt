@@ -1,7 +1,7 @@
 -- `step` is `step_of`: refused as the preparation is, or the step of the list prepared.
 use native.Mathlib.Omega.{arith}
 use borrow.Author.Rules.{rules}
-use Rattle.step.proofs.StepLaws.{yields, yields-by, prepared-ready, step-refused, step-prepared}
+use Rattle.step.proofs.StepLaws.{yields, yields_by, prepared_ready, step_refused, step_prepared_lem}
 use Rattle.step.proofs.step.Statement.{statement}
 use Rattle.step.proofs.step.Tie as tie
 
@@ -25,7 +25,7 @@ refuse-requires c κs = search rules
 
 returns : tie.Need-returns
 returns c =
-    yields _ _ _ _ _ _ _ c.refuse.ensures (step-refused _ _ _ _ c.before.before.before.before.before.prepare.ensures.0 _ _ c.before.before.enum_told.given.1 c.before.refusal-in.ensures _ _)
+    yields _ _ _ _ _ _ _ c.refuse.ensures (step_refused _ _ _ _ c.before.before.before.before.before.prepare.ensures.0 _ _ c.before.before.enum_told.given.1 c.before.refusal-in.ensures _ _)
 
 slice-aggregate-step-planned : tie.Need-slice-aggregate-step-planned
 slice-aggregate-step-planned c = search rules
@@ -34,7 +34,7 @@ step-planned-requires : tie.Need-step-planned-requires
 step-planned-requires c κs =
     let at-prepared = c.before.before.before in let at-prepare = at-prepared.before.before.before in
     let at-shared-slice-known = at-prepare.before.before.before.before.before in
-    prepared-ready _ _ _ _ at-prepare.prepare.ensures.0 _ at-prepare.prepare.ensures.1 _ at-prepared.prepared.given.1 (λ i.
+    prepared_ready _ _ _ _ at-prepare.prepare.ensures.0 _ at-prepare.prepare.ensures.1 _ at-prepared.prepared.given.1 (λ i.
     omega (arith, at-shared-slice-known.shared-slice-known.given i)) at-prepare.prepare.auto.1.0
 
 same_length : tie.Need-same-length
@@ -45,7 +45,7 @@ returns-2 c =
     let at-step-planned = c.before.before in let at-prepared = at-step-planned.before.before.before.before in
     let at-prepare = at-prepared.before.before.before in
     let at-shared-slice-known = at-prepare.before.before.before.before.before in
-    yields-by _ _ _ _ _ (step-prepared _ _ _ _ _ _ (prepared-ready _ _ _ _ at-prepare.prepare.ensures.0 _ at-prepare.prepare.ensures.1 _ at-prepared.prepared.given.1 (λ i. omega (arith, at-shared-slice-known.shared-slice-known.given i)) at-prepare.prepare.auto.1.0) _ _) at-step-planned.step-planned.ensures
+    yields_by _ _ _ _ _ (step_prepared_lem _ _ _ _ _ _ (prepared_ready _ _ _ _ at-prepare.prepare.ensures.0 _ at-prepare.prepare.ensures.1 _ at-prepared.prepared.given.1 (λ i. omega (arith, at-shared-slice-known.shared-slice-known.given i)) at-prepare.prepare.auto.1.0) _ _) at-step-planned.step-planned.ensures
 
 pub step_spec : {M : Type 1} → statement M
 step_spec =

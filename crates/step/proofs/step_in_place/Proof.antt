@@ -44,7 +44,7 @@ use denote.Triple.Walked.{says, Stays, stay_ref, stay_none_slice, gave_slice, wa
 use denote.Exit.{yes}
 use denote.Signature.{plain}
 use Rattle.reply.specs.Effect.{state_of}
-use Rattle.calls.specs.Calls.{step_of, yieldOf, Yields}
+use Rattle.calls.specs.Calls.{step_of, yield_of, Yields}
 use Rattle.reply.specs.declared.records.Record.{Record}
 use Rattle.calls.specs.declared.Yield.{Yield}
 use Rattle.step.specs.declared.Answered.{Answered}
@@ -162,15 +162,15 @@ module _ {M : Type 1} {𝓤 : Ura M} (𝓛 : Logic 𝓤) (at_mem : Memory → SP
   is-run : (r : Yield) → Is Y.the_row r (LL.vals Y.the_type Y'.the_laws r) → Is R r.run (mach r.run ∷ [])
   is-run r is = (LL.owed Y.the_type Y'.the_laws r _ is).1.0
 
-  is-answer : (r : Yield) → Is Y.the_row r (LL.vals Y.the_type Y'.the_laws r) → Is Ans.the_row (answer r) (mach-answer r ∷ [])
-  is-answer r is = LL.owes Ans.the_type Ans'.the_laws (answer r) ((LL.owed Y.the_type Y'.the_laws r _ is).0, ((LL.owed Y.the_type Y'.the_laws r _ is).1.1.0, tt))
+  is_answer : (r : Yield) → Is Y.the_row r (LL.vals Y.the_type Y'.the_laws r) → Is Ans.the_row (answer r) (mach-answer r ∷ [])
+  is_answer r is = LL.owes Ans.the_type Ans'.the_laws (answer r) ((LL.owed Y.the_type Y'.the_laws r _ is).0, ((LL.owed Y.the_type Y'.the_laws r _ is).1.1.0, tt))
 
   exits : (r : Yield) (zs : List ℕ) → Said r zs → length zs ≡ length ys → Is Ans.the_row (answer r) (mach-answer r ∷ [])
       → ent 𝓤 (⋆ 𝓛 (‵ (fobs γ (R.coded.code (left r))) ∷ ‵ (fbor κ₁ (Body (mem R) b o γ)) ∷ ‵ (flft κ₁ q₁) ∷ (‵ (flft κ₀ q₀) ⊛ ‵ (flft κ₂ q₂) ⊛ ‵ (flft κ₃ q₃) ⊛ ‵ (flft κ₄ q₄) ⊛ ‵ ftrue) ∷ ‵ (finally u8 γx zs) ∷ ‵ OwnP ∷ ‵ OwnU ∷ ‵ OwnL ∷ [])) (Post (mach-answer r))
   exits r zs e n io =
       qed 𝓛 (‵ (fobs γ (R.coded.code (left r))) ∷ ‵ (fbor κ₁ (Body (mem R) b o γ)) ∷ ‵ (flft κ₁ q₁) ∷ (‵ (flft κ₀ q₀) ⊛ ‵ (flft κ₂ q₂) ⊛ ‵ (flft κ₃ q₃) ⊛ ‵ (flft κ₄ q₄) ⊛ ‵ ftrue) ∷ ‵ (finally u8 γx zs) ∷ ‵ OwnP ∷ ‵ OwnU ∷ ‵ OwnL ∷ []) ∵
       suffices ! _ (ends_at 𝓛 self.ended stayed (self.clauses 𝓛 at_mem run) ((κs, (q₀, (q₁, (q₂, (q₃, (q₄, tt))))), tt, a, vals), tt) (mach-answer r) (answer r) (tt, (left r, (zs, (tt, (tt, tt))))) (tt, (tt, (n, (tt, (tt, tt)))))) $
-      says ! (record { answer = ap answer e.answer; run = ap left e.answer; incoming-bytes = e.incoming-bytes; outgoing-bytes = e.outgoing-bytes }) $
+      says ! (record { answer = ap answer e.answer; run = ap left e.answer; incoming_bytes = e.incoming_bytes; outgoing_bytes = e.outgoing_bytes }) $
       -- the tokens
       move ! (3 ∷ []) $ split ! $ move ! (4 ∷ 1 ∷ []) $ join ! $ move ! (1 ∷ 0 ∷ []) $ join ! $ frame ! $
       -- [obs; the borrow; the last list; p's; u's; l's]
@@ -214,11 +214,11 @@ module _ {M : Type 1} {𝓤 : Ura M} (𝓛 : Logic 𝓤) (at_mem : Memory → SP
         rewrite ! 0 (λ (vs : List Val). ‵ ((Y.the_row).own_val r vs)) (LL.tells Y.the_type Y'.the_laws r _ is₀) refl $ peeks ! Y.the_row (Is Y.the_row) (shows 𝓛 Y.the_row) r (LL.vals Y.the_type Y'.the_laws r) (λ is.
         -- the new record is stored, and the answer returned
         assigns ! (of_opd ! (load ! (from ! (fld ! refl (stop !))) (look_in ! 17 (sub ! 1 refl (whole !))))) (from ! (hop ! (look ! 25 refl) (stop !))) (store_raw ! 6 refl ((LL.lawful T.the_type T'.the_laws 𝓛).typed r.run _ (is-run r is)).0) $
-        assigns ! (agg ! (and_then ! (load ! (from ! (fld ! refl (stop !))) (look_in ! 17 (sub ! 0 refl (whole !)))) (and_then ! (load ! (from ! (fld ! refl (stop !))) (look_in ! 17 (sub ! 2 refl (whole !)))) (no_more !)))) (from ! (stop !)) (init ! 29 refl ((LL.lawful Ans.the_type Ans'.the_laws 𝓛).typed (answer r) _ (is-answer r is)).0) $
+        assigns ! (agg ! (and_then ! (load ! (from ! (fld ! refl (stop !))) (look_in ! 17 (sub ! 0 refl (whole !)))) (and_then ! (load ! (from ! (fld ! refl (stop !))) (look_in ! 17 (sub ! 2 refl (whole !)))) (no_more !)))) (from ! (stop !)) (init ! 29 refl ((LL.lawful Ans.the_type Ans'.the_laws 𝓛).typed (answer r) _ (is_answer r is)).0) $
         -- the borrow is closed at the new record
         drop ! $ move ! (6 ∷ []) $ drop ! $ owned ! R (Is R) (LL.makes T.the_type T'.the_plain 𝓛) (left r) _ (is-run r is) $ move ! (6 ∷ 0 ∷ 7 ∷ 8 ∷ 9 ∷ []) $ closes ! tt R (left r) (mach (left r) ∷ []) b o $
         -- [obs; the borrow; κ₁'s token; the tokens; the last list; p's; u's; l's; _9; …]
-        returns ! (look ! 26 refl) $ forget ! 8 refl $ forget ! 10 refl $ forget ! 12 refl $ forget ! 14 refl $ forget ! 16 refl $ forget ! 18 refl $ forget ! 20 refl $ forget ! 22 refl $ forget ! 24 refl $ forget ! 26 refl $ move ! (26 ∷ 27 ∷ []) $ free1 ! $ move ! (24 ∷ 25 ∷ []) $ free1 ! $ move ! (22 ∷ 23 ∷ []) $ free1 ! $ move ! (20 ∷ 21 ∷ []) $ free1 ! $ move ! (18 ∷ 19 ∷ []) $ free1 ! $ move ! (16 ∷ 17 ∷ []) $ free1 ! $ move ! (14 ∷ 15 ∷ []) $ free1 ! $ move ! (12 ∷ 13 ∷ []) $ free1 ! $ move ! (10 ∷ 11 ∷ []) $ free1 ! $ move ! (8 ∷ 9 ∷ []) $ free1 ! $ free0 ! $ keep ! (0 ∷ 1 ∷ 2 ∷ 3 ∷ 4 ∷ 5 ∷ 6 ∷ 7 ∷ []) $ by ! (exits r zs.1.1.0 e n (is-answer r is)))))))))))))))))))))
+        returns ! (look ! 26 refl) $ forget ! 8 refl $ forget ! 10 refl $ forget ! 12 refl $ forget ! 14 refl $ forget ! 16 refl $ forget ! 18 refl $ forget ! 20 refl $ forget ! 22 refl $ forget ! 24 refl $ forget ! 26 refl $ move ! (26 ∷ 27 ∷ []) $ free1 ! $ move ! (24 ∷ 25 ∷ []) $ free1 ! $ move ! (22 ∷ 23 ∷ []) $ free1 ! $ move ! (20 ∷ 21 ∷ []) $ free1 ! $ move ! (18 ∷ 19 ∷ []) $ free1 ! $ move ! (16 ∷ 17 ∷ []) $ free1 ! $ move ! (14 ∷ 15 ∷ []) $ free1 ! $ move ! (12 ∷ 13 ∷ []) $ free1 ! $ move ! (10 ∷ 11 ∷ []) $ free1 ! $ move ! (8 ∷ 9 ∷ []) $ free1 ! $ free0 ! $ keep ! (0 ∷ 1 ∷ 2 ∷ 3 ∷ 4 ∷ 5 ∷ 6 ∷ 7 ∷ []) $ by ! (exits r zs.1.1.0 e n (is_answer r is)))))))))))))))))))))
 
 module _ {M : Type 1} {𝓤 : Ura M} (𝓛 : Logic 𝓤) (mem : Memory → SProp 𝓤) (run : Routine → Fun 𝓤) where
   open 𝓛 use {H}

@@ -6,12 +6,12 @@ use Rattle.camac.specs.declared.words.Command.{Command}
 use Rattle.packing.specs.declared.Marks.{Marks}
 use Rattle.listfile.specs.declared.field.Instruction.{Instruction}
 use Rattle.listfile.specs.declared.field.Instruction.TheVariants.{Camac, Jump, Literal, Halt}
-use Rattle.walk.specs.Walk.{sameSpot, Visit}
+use Rattle.walk.specs.Walk.{same_spot, Visit}
 use Rattle.walk.specs.model.Sums.{turn_of}
 use Rattle.walk.specs.declared.worst.Counts.{Counts}
 use Rattle.walk.specs.declared.visits.Turn.{Turn}
 use Rattle.walk.specs.declared.visits.Turn.TheVariants.{To, Stopped}
-use Rattle.calls.specs.Fit.{fitsAt, fits}
+use Rattle.calls.specs.Fit.{fits_at, fits}
 use Rattle.reply.specs.declared.records.Record.{Record}
 use Rattle.step.specs.declared.place.Found.{Found}
 use Rattle.step.specs.declared.place.Found.TheVariants.{Here, Missing}
@@ -22,12 +22,12 @@ use Rattle.step.specs.declared.place.Fitting.{Fitting}
 use Rattle.step.specs.declared.place.Fitting.TheVariants.{Waits, Unfit}
 
 -- the sums at the start of the walk
-abbrev pub noSums : Counts
-noSums = record { worst = 0; incoming = 0; outgoing = 0 }
+abbrev pub no_sums : Counts
+no_sums = record { worst = 0; incoming = 0; outgoing = 0 }
 
-abbrev pub sumsIn : Turn → Counts → Counts
-sumsIn (To k s) before = s
-sumsIn Stopped before = before
+abbrev pub sums_in : Turn → Counts → Counts
+sums_in (To k s) before = s
+sums_in Stopped before = before
 
 abbrev pub found_at : Instruction → Counts → ℕ → Found
 found_at (Camac c) s after = Here c s after
@@ -36,19 +36,19 @@ found_at (Literal v) s after = Missing
 found_at Halt s after = Missing
 
 -- the visit of a spot among visits, with the sums before them
-unfoldable pub findIn : ℕ → Spot → List Visit → Counts → Found
-findIn limit k [] s = Missing
-findIn limit k (v ∷ vs) s =
-    if sameSpot v.spot k then found_at v.instruction s (sumsIn (turn_of limit v.instruction v.spot s) s).worst
-    else findIn limit k vs (sumsIn (turn_of limit v.instruction v.spot s) s)
+unfoldable pub find_in : ℕ → Spot → List Visit → Counts → Found
+find_in limit k [] s = Missing
+find_in limit k (v ∷ vs) s =
+    if same_spot v.spot k then found_at v.instruction s (sums_in (turn_of limit v.instruction v.spot s) s).worst
+    else find_in limit k vs (sums_in (turn_of limit v.instruction v.spot s) s)
 
 -- the marks among the sums
-abbrev pub marksIn : Counts → Marks
-marksIn s = record { incoming = s.incoming; outgoing = s.outgoing }
+abbrev pub marks_in : Counts → Marks
+marks_in s = record { incoming = s.incoming; outgoing = s.outgoing }
 
 -- whether a record fits at what was found
 abbrev pub fits_by : ℕ → ℕ → Found → Record → Bool
-fits_by limit worst (Here c s after) r = fitsAt limit worst c (marksIn s) (worst - after) r
+fits_by limit worst (Here c s after) r = fits_at limit worst c (marks_in s) (worst - after) r
 fits_by limit worst Missing r = false
 
 -- a record that fits, at its CAMAC instruction of the walk

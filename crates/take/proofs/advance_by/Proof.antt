@@ -1,11 +1,11 @@
--- `advance_by` is `advanceRun` and `advanceBuffer`, by the variant matched; a literal's room, which `requires` gives, bounds its mark.
+-- `advance_by` is `advance_run` and `advance_buffer`, by the variant matched; a literal's room, which `requires` gives, bounds its mark.
 use borrow.Author.Rules.{rules}
 use mathlib.Core.Bool.{true}
 use mathlib.Core.Path.{subst}
 use native.Mathlib.Omega.{arith}
-use Rattle.packing.proofs.MarkFacts.{mark-grows}
+use Rattle.packing.proofs.MarkFacts.{mark_grows}
 use Rattle.listfile.specs.declared.field.Instruction.{Instruction}
-use Rattle.take.specs.model.Here.{RoomFor, advanceRun, advanceBuffer}
+use Rattle.take.specs.model.Here.{RoomFor, advance_run, advance_buffer}
 use Rattle.take.proofs.advance_by.Statement.{statement}
 use Rattle.take.proofs.advance_by.Tie as tie
 
@@ -35,7 +35,7 @@ mark-after-requires : tie.Need-mark-after-requires
 mark-after-requires c κs =
     omega (
       arith,
-      mark-grows true c.before.before.before.before.before.before.before.before.before.args.r.marks.incoming,
+      mark_grows true c.before.before.before.before.before.before.before.before.before.args.r.marks.incoming,
       subst
           (λ (x : Instruction). RoomFor x c.before.before.before.before.before.before.before.before.before.args.r c.before.before.before.before.before.before.before.before.before.args.incoming.now)
           c.before.before.before.before.before.before.i3.given.1
@@ -55,18 +55,18 @@ ended-at-requires : tie.Need-ended-at-requires
 ended-at-requires c κs = search rules
 
 returns : tie.Need-returns
-unfolding advanceRun advanceBuffer
+unfolding advance_run advance_buffer
 returns c = (simp (c.before.before.i.given.1, c.waits-for.ensures), simp c.before.before.i.given.1)
 
 returns-2 : tie.Need-returns-2
-unfolding advanceRun advanceBuffer
+unfolding advance_run advance_buffer
 returns-2 c = (simp (c.before.before.i2.given.1, c.jump_to.ensures), simp c.before.before.i2.given.1)
 
 same_length : tie.Need-same-length
 same_length c = search rules
 
 returns-3 : tie.Need-returns-3
-unfolding advanceRun advanceBuffer
+unfolding advance_run advance_buffer
 returns-3 c = (
   simp (
     c.before.before.before.before.before.before.before.before.before.i3.given.1,
@@ -79,7 +79,7 @@ returns-3 c = (
 )
 
 returns-4 : tie.Need-returns-4
-unfolding advanceRun advanceBuffer
+unfolding advance_run advance_buffer
 returns-4 c = (simp (c.before.enum_told.given.1, c.ended_at.ensures), simp c.before.enum_told.given.1)
 
 pub advance-by-spec : {M : Type 1} → statement M

@@ -1,7 +1,7 @@
 -- `end_run` by whether its word moves. A mark within the buffer is below 2^63, as the buffer's length is.
 use borrow.Author.Rules.{rules}
 use native.Mathlib.Omega.{arith}
-use Rattle.take.proofs.HereCases.{room_after, marks-small}
+use Rattle.take.proofs.HereCases.{room_after, marks_small}
 use Rattle.take.proofs.end_run.Statement.{statement}
 use Rattle.take.proofs.end_run.Tie as tie
 
@@ -12,7 +12,7 @@ store-by-requires c κs =
 moved-record-requires : tie.Need-moved-record-requires
 moved-record-requires c κs =
     let start = c.before.before.before.before.before.before.before.before in
-    marks-small start.args.c _ _ _ start.requires.1.1 start.requires.1.0.room (omega (arith, start.well-formed.1.1.1.1.1.1.0.1)) start.requires.1.0.outgoing
+    marks_small start.args.c _ _ _ start.requires.1.1 start.requires.1.0.room (omega (arith, start.well-formed.1.1.1.1.1.1.0.1)) start.requires.1.0.outgoing
 
 ended-at-requires : tie.Need-ended-at-requires
 ended-at-requires c κs = search rules

@@ -1,8 +1,8 @@
--- `go_on` is `onRun`, by whether the word is done and any is left. A mark within the buffer is below 2^63, as the buffer's length is.
+-- `go_on` is `on_run`, by whether the word is done and any is left. A mark within the buffer is below 2^63, as the buffer's length is.
 use borrow.Author.Rules.{rules}
 use mathlib.Core.Path.{refl}
 use native.Mathlib.Omega.{arith}
-use Rattle.take.proofs.HereCases.{room_after, marks-small, is-through, is_same}
+use Rattle.take.proofs.HereCases.{room_after, marks_small, is_through, is_same}
 use Rattle.take.proofs.go_on.Statement.{statement}
 use Rattle.take.proofs.go_on.Tie as tie
 
@@ -15,7 +15,7 @@ store-by-requires c κs = let start = c.before.before.before.before.before.befor
 moved-record-requires : tie.Need-moved-record-requires
 moved-record-requires c κs =
     let start = c.before.before.before.before.before.before.before.before.before in
-    marks-small start.args.c _ _ _ start.requires.1 start.requires.0.room (omega (arith, start.well-formed.1.1.1.1.1.0.1)) start.requires.0.outgoing
+    marks_small start.args.c _ _ _ start.requires.1 start.requires.0.room (omega (arith, start.well-formed.1.1.1.1.1.0.1)) start.requires.0.outgoing
 
 left-after-requires : tie.Need-left-after-requires
 left-after-requires c κs = search rules
@@ -26,7 +26,7 @@ same_length c = search rules
 returns : tie.Need-returns
 returns c =
     let at_done = c.before.before.before.before.before.before.before in (
-      is-through _ _ _ at_done.if1.true at_done.before.before.before.qmode-of.ensures c.before.left_After.ensures
+      is_through _ _ _ at_done.if1.true at_done.before.before.before.qmode-of.ensures c.before.left_After.ensures
           c.before.before.moved-record.ensures c.if2.true,
       rw at_done.if1.true c.before.before.before.before.before.store_by.ensures,
     )
@@ -58,7 +58,7 @@ left-after-requires-2 c κs = search rules
 returns-3 : tie.Need-returns-3
 returns-3 c =
     let at-undone = c.before.before in (
-      is-through _ _ _ at-undone.if1.false at-undone.before.before.before.qmode-of.ensures c.before.left-after2.ensures refl c.if3.true,
+      is_through _ _ _ at-undone.if1.false at-undone.before.before.before.qmode-of.ensures c.before.left-after2.ensures refl c.if3.true,
       rw at-undone.if1.false,
     )
 

@@ -1,4 +1,4 @@
--- `longword_of` is `longwordOf`, by the kind of the reply: the data of an answer, its X and its Q have bits of their own, so that the sum fits.
+-- `longword_of` is `longword_of`, by the kind of the reply: the data of an answer, its X and its Q have bits of their own, so that the sum fits.
 use Prim.Native.Nat.{ℕ, ◌+◌, ◌%◌, ◌^◌, ◌≤◌}
 use mathlib.Core.Path.{◌≡◌}
 use mathlib.Core.Bool.{Bool, true, false}
@@ -6,7 +6,7 @@ use borrow.Author.Rules.{rules}
 use native.Mathlib.Omega.{arith}
 use Rattle.base.specs.Checks.{if◌then◌else◌}
 use Rattle.qmodes.specs.declared.modes.Answer.{Answer}
-use Rattle.reply.specs.Effect.{longwordOf}
+use Rattle.reply.specs.Effect.{longword_of}
 use Rattle.reply.specs.declared.replies.Reply.TheVariants.{Answered}
 use Rattle.take.proofs.longword_of.Statement.{statement}
 use Rattle.take.proofs.longword_of.Tie as tie
@@ -16,7 +16,7 @@ at_most true v r e = omega (arith, e)
 at_most false v r e = omega (arith, e)
 
 -- the data and the two bits
-sum : (a : Answer) (x q : ℕ) → x ≡ (if a.x then 2 ^ 30 else 0) → q ≡ (if a.q then 2 ^ 31 else 0) → a.word % 2 ^ 24 + x + q ≡ longwordOf (Answered a)
+sum : (a : Answer) (x q : ℕ) → x ≡ (if a.x then 2 ^ 30 else 0) → q ≡ (if a.q then 2 ^ 31 else 0) → a.word % 2 ^ 24 + x + q ≡ longword_of (Answered a)
 sum a x q ex eq = rw (ex, eq)
 
 returns : tie.Need-returns

@@ -1,7 +1,7 @@
--- `store_by` is `movedBytes`, by the direction: only a read stores, and `incomingAfter` is then the mark behind its word.
+-- `store_by` is `moved_bytes`, by the direction: only a read stores, and `incoming_after` is then the mark behind its word.
 use mathlib.Core.Path.{◌∙◌}
 use borrow.Author.Rules.{rules}
-use Rattle.take.proofs.HereCases.{room-incoming, stored-incoming, stored-outgoing, stored-neither}
+use Rattle.take.proofs.HereCases.{room_incoming, stored_incoming, stored_outgoing, stored_neither}
 use Rattle.take.proofs.store_by.Statement.{statement}
 use Rattle.take.proofs.store_by.Tie as tie
 
@@ -16,7 +16,7 @@ longword-of-requires c κs = search rules
 
 store-requires : tie.Need-store-requires
 store-requires c κs =
-    room-incoming _ _
+    room_incoming _ _
     c.before.before.before.before.direction-of.ensures
     _ _ c.before.before.enum_told.given.1
     c.before.before.before.before.before.before.requires
@@ -32,16 +32,16 @@ same_length c = search rules
 
 returns : tie.Need-returns
 returns c =
-    stored-incoming _ _
+    stored_incoming _ _
     c.before.before.before.before.before.before.before.direction-of.ensures
     _ _ _ _ c.before.before.before.before.before.enum_told.given.1
     (c.before.before.store.ensures ∙ rw c.before.before.before.longword-of.ensures)
 
 returns-2 : tie.Need-returns-2
-returns-2 c = stored-outgoing _ _ c.before.before.direction-of.ensures _ _ _ c.enum-told2.given.1
+returns-2 c = stored_outgoing _ _ c.before.before.direction-of.ensures _ _ _ c.enum-told2.given.1
 
 returns-3 : tie.Need-returns-3
-returns-3 c = stored-neither _ _ c.before.before.direction-of.ensures _ _ _ c.enum-told3.given.1
+returns-3 c = stored_neither _ _ c.before.before.direction-of.ensures _ _ _ c.enum-told3.given.1
 
 pub store-by-spec : {M : Type 1} → statement M
 store-by-spec =

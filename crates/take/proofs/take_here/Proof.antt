@@ -1,9 +1,9 @@
--- `take_here` is `hereRun` and `hereBuffer`: without a cause the run goes on, with one it ends.
+-- `take_here` is `here_run` and `here_buffer`: without a cause the run goes on, with one it ends.
 use borrow.Author.Rules.{rules}
 use borrow.Author.Tests.{ne_eqb}
-use Rattle.take.specs.model.Here.{hereRun, hereBuffer}
+use Rattle.take.specs.model.Here.{here_run, here_buffer}
 use Rattle.reply.proofs.CodeCases.{code_below}
-use Rattle.take.proofs.HereCases.{counted-marks}
+use Rattle.take.proofs.HereCases.{counted_marks}
 use Rattle.take.proofs.take_here.Statement.{statement}
 use Rattle.take.proofs.take_here.Tie as tie
 
@@ -20,13 +20,13 @@ done-by-requires : tie.Need-done-by-requires
 done-by-requires c κs = search rules
 
 go-on-requires : tie.Need-go-on-requires
-go-on-requires c κs = (c.before.before.before.before.before.before.before.requires, counted-marks _ _ _ _ _ c.before.before.before.before.counted-record.ensures)
+go-on-requires c κs = (c.before.before.before.before.before.before.before.requires, counted_marks _ _ _ _ _ c.before.before.before.before.counted-record.ensures)
 
 same_length : tie.Need-same-length
 same_length c = search rules
 
 returns : tie.Need-returns
-unfolding hereRun hereBuffer
+unfolding here_run here_buffer
 returns c =
     let at-go-on = c.before.before in
     let at_code = at-go-on.before.before.before.before.before.before in (
@@ -40,13 +40,13 @@ moves-at-end-requires : tie.Need-moves-at-end-requires
 moves-at-end-requires c κs = search rules
 
 end-run-requires : tie.Need-end-run-requires
-end-run-requires c κs = (code_below _ _ _ _ _ c.before.before.before.before.code_of_lem.ensures, (c.before.before.before.before.before.before.requires, counted-marks _ _ _ _ _ c.before.before.before.counted-record.ensures))
+end-run-requires c κs = (code_below _ _ _ _ _ c.before.before.before.before.code_of_lem.ensures, (c.before.before.before.before.before.before.requires, counted_marks _ _ _ _ _ c.before.before.before.counted-record.ensures))
 
 same-length-2 : tie.Need-same-length-2
 same-length-2 c = search rules
 
 returns-2 : tie.Need-returns-2
-unfolding hereRun hereBuffer
+unfolding here_run here_buffer
 returns-2 c =
     let at-end-run = c.before.before in
     let at_code = c.before.before.before.before.before.before.before in (

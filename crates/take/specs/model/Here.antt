@@ -2,16 +2,16 @@
 -- Nothing here is a rule of document 01: the laws TakeHere and Onward join these definitions to those that are.
 use Rattle.std.specs.Prelude.{ℕ, ◌^◌, ◌≤◌, ◌<◌, Bool, true, false, ◌&&◌, List, eqb, length}
 use Rattle.base.specs.Checks.{if◌then◌else◌}
-use Rattle.camac.specs.Words.{qmodeOf}
+use Rattle.camac.specs.Words.{qmode_of}
 use Rattle.camac.specs.declared.words.Command.{Command}
 use Rattle.camac.specs.declared.words.Direction.TheVariants.{Incoming}
-use Rattle.packing.specs.Packing.{markAfter, stored}
+use Rattle.packing.specs.Packing.{mark_after, stored}
 use Rattle.listfile.specs.declared.field.Instruction.{Instruction}
 use Rattle.listfile.specs.declared.field.Instruction.TheVariants.{Camac, Jump, Literal, Halt}
-use Rattle.walk.specs.Walk.{spotAfter, jump_to, Visit, movedBy, moved}
-use Rattle.reply.specs.Causes.{doneBy, causesOf, code_of, onlyNine}
-use Rattle.reply.specs.Effect.{State, endedAt, waits_for, withMarks, runOn, longwordOf, movedRecord, movedBytes, counted, waiting, state_of}
-use Rattle.qmodes.specs.Modes.{leftAfter, triesAfter, positionAfter}
+use Rattle.walk.specs.Walk.{spot_after, jump_to, Visit, moved_by, moved}
+use Rattle.reply.specs.Causes.{done_by, causes_of, code_of, only_nine}
+use Rattle.reply.specs.Effect.{State, ended_at, waits_for, with_marks, run_on, longword_of, moved_record, moved_bytes, counted, waiting, state_of}
+use Rattle.qmodes.specs.Modes.{left_after, tries_after, position_after}
 use Rattle.reply.specs.declared.replies.Reply.{Reply}
 use Rattle.reply.specs.declared.records.Record.{Record}
 use Rattle.take.specs.declared.Taken.{Taken}
@@ -31,52 +31,52 @@ pub record Ready (c : Command) (r : Record) (buffer : List ℕ) : Type 0 where
   pub outgoing : r.marks.outgoing < 2 ^ 63
 
 -- the incoming mark after one word, by the mark alone
-unfoldable pub incomingAfter : Command → ℕ → ℕ
-incomingAfter c mark = (moved c (record { incoming = mark; outgoing = 0 })).incoming
+unfoldable pub incoming_after : Command → ℕ → ℕ
+incoming_after c mark = (moved c (record { incoming = mark; outgoing = 0 })).incoming
 
 -- the record that waits on at the same operation; `before` is the record before the reply, r the counted one
 abbrev pub onward : Command → Bool → ℕ → Record → Record → Record
-onward c isDone left before r =
+onward c is_done left before r =
     waiting left
-    (triesAfter (qmodeOf c.transfer) isDone before.tries)
-    (positionAfter (qmodeOf c.transfer) isDone before.position)
+    (tries_after (qmode_of c.transfer) is_done before.tries)
+    (position_after (qmode_of c.transfer) is_done before.position)
     r
 
 -- the record and the incoming buffer after one word, where it moves
-abbrev pub movedIf : Bool → Command → Record → Record
-movedIf true c r = movedRecord c r
-movedIf false c r = r
+abbrev pub moved_if : Bool → Command → Record → Record
+moved_if true c r = moved_record c r
+moved_if false c r = r
 
 -- no cause: the same operation waits on, or it is through
-unfoldable pub onRun : Command → Bool → Record → Record → Taken
-onRun c isDone before r =
-    let left : ℕ = leftAfter (qmodeOf c.transfer) isDone before.left in
-    if eqb left 0 then Through (movedIf isDone c r) else Same (onward c isDone left before (movedIf isDone c r))
+unfoldable pub on_run : Command → Bool → Record → Record → Taken
+on_run c is_done before r =
+    let left : ℕ = left_after (qmode_of c.transfer) is_done before.left in
+    if eqb left 0 then Through (moved_if is_done c r) else Same (onward c is_done left before (moved_if is_done c r))
 
-abbrev pub bytesIf : Bool → Command → ℕ → ℕ → List ℕ → List ℕ
-bytesIf true c word mark buffer = movedBytes c word mark buffer
-bytesIf false c word mark buffer = buffer
+abbrev pub bytes_if : Bool → Command → ℕ → ℕ → List ℕ → List ℕ
+bytes_if true c word mark buffer = moved_bytes c word mark buffer
+bytes_if false c word mark buffer = buffer
 
 -- whether a reply that ends the run moves its word first: a done word, with 9 as the only cause
-unfoldable pub movesAtEnd : ℕ → Command → Reply → Record → Bool
-movesAtEnd limit c reply r = doneBy (qmodeOf c.transfer) reply && onlyNine (causesOf limit c r reply)
+unfoldable pub moves_at_end : ℕ → Command → Reply → Record → Bool
+moves_at_end limit c reply r = done_by (qmode_of c.transfer) reply && only_nine (causes_of limit c r reply)
 
 -- the record after a reply
-unfoldable pub hereRun : ℕ → Command → Reply → Record → Taken
-hereRun limit c reply r =
-    if eqb (code_of limit c r reply) 0 then onRun c (doneBy (qmodeOf c.transfer) reply) r (counted limit c reply r)
-    else Ended (endedAt r.spot (code_of limit c r reply) (movedIf (movesAtEnd limit c reply r) c (counted limit c reply r)))
+unfoldable pub here_run : ℕ → Command → Reply → Record → Taken
+here_run limit c reply r =
+    if eqb (code_of limit c r reply) 0 then on_run c (done_by (qmode_of c.transfer) reply) r (counted limit c reply r)
+    else Ended (ended_at r.spot (code_of limit c r reply) (moved_if (moves_at_end limit c reply r) c (counted limit c reply r)))
 
 -- the incoming buffer after it
-unfoldable pub hereBuffer : ℕ → Command → Reply → Record → List ℕ → List ℕ
-hereBuffer limit c reply r buffer =
-    bytesIf (if eqb (code_of limit c r reply) 0 then doneBy (qmodeOf c.transfer) reply else movesAtEnd limit c reply r)
-    c (longwordOf reply) r.marks.incoming buffer
+unfoldable pub here_buffer : ℕ → Command → Reply → Record → List ℕ → List ℕ
+here_buffer limit c reply r buffer =
+    bytes_if (if eqb (code_of limit c r reply) 0 then done_by (qmode_of c.transfer) reply else moves_at_end limit c reply r)
+    c (longword_of reply) r.marks.incoming buffer
 
 -- the walk behind the last word
 abbrev pub resumed : List Visit → Taken → List ℕ → List ℕ → State
 resumed rest (Same r) incoming outgoing = state_of r incoming outgoing
-resumed rest (Through r) incoming outgoing = runOn rest (state_of r incoming outgoing)
+resumed rest (Through r) incoming outgoing = run_on rest (state_of r incoming outgoing)
 resumed rest (Ended r) incoming outgoing = state_of r incoming outgoing
 
 -- One visit --------------------------------------------------------------------------------------------------------------
@@ -85,18 +85,18 @@ resumed rest (Ended r) incoming outgoing = state_of r incoming outgoing
 abbrev pub RoomFor : Instruction → Record → List ℕ → Type 0
 RoomFor (Camac c) r buffer = Unit {0}
 RoomFor (Jump target) r buffer = Unit {0}
-RoomFor (Literal v) r buffer = markAfter true r.marks.incoming ≤ length buffer
+RoomFor (Literal v) r buffer = mark_after true r.marks.incoming ≤ length buffer
 RoomFor Halt r buffer = Unit {0}
 
 -- where the run stands after an instruction: on at another, or waiting or ended here
-unfoldable pub advanceRun : Instruction → Spot → Record → Advance
-advanceRun (Camac c) k r = At (waits_for k c r)
-advanceRun (Jump target) k r = On (jump_to target k) r
-advanceRun (Literal v) k r = On (spotAfter k) (withMarks (movedBy Incoming true r.marks) r)
-advanceRun Halt k r = At (endedAt k 0 r)
+unfoldable pub advance_run : Instruction → Spot → Record → Advance
+advance_run (Camac c) k r = At (waits_for k c r)
+advance_run (Jump target) k r = On (jump_to target k) r
+advance_run (Literal v) k r = On (spot_after k) (with_marks (moved_by Incoming true r.marks) r)
+advance_run Halt k r = At (ended_at k 0 r)
 
-unfoldable pub advanceBuffer : Instruction → Record → List ℕ → List ℕ
-advanceBuffer (Camac c) r buffer = buffer
-advanceBuffer (Jump target) r buffer = buffer
-advanceBuffer (Literal v) r buffer = stored true v r.marks.incoming buffer
-advanceBuffer Halt r buffer = buffer
+unfoldable pub advance_buffer : Instruction → Record → List ℕ → List ℕ
+advance_buffer (Camac c) r buffer = buffer
+advance_buffer (Jump target) r buffer = buffer
+advance_buffer (Literal v) r buffer = stored true v r.marks.incoming buffer
+advance_buffer Halt r buffer = buffer

@@ -1,7 +1,7 @@
--- `admit` is `admitOf`: `prepare` answers as the definition of its name, and a plan's counts are its sums.
+-- `admit` is `admit_of`: `prepare` answers as the definition of its name, and a plan's counts are its sums.
 use borrow.Author.Rules.{rules}
 use mathlib.Core.Path.{refl}
-use Rattle.walk.proofs.PrepareLaws.{admit-refused, admit-ready}
+use Rattle.walk.proofs.PrepareLaws.{admit_refused, admit_ready}
 use Rattle.walk.proofs.admit.Statement.{statement}
 use Rattle.walk.proofs.admit.Tie as tie
 
@@ -22,12 +22,12 @@ refusal-in-requires c κs = search rules
 
 returns : tie.Need-returns
 returns c =
-    admit-refused _ _ _ _ c.before.before.before.before.prepare.ensures.0 _ _ c.before.enum_told.given.1
+    admit_refused _ _ _ _ c.before.before.before.before.prepare.ensures.0 _ _ c.before.enum_told.given.1
     c.refusal-in.ensures
 
 returns-2 : tie.Need-returns-2
 returns-2 c =
-    admit-ready _ _ _ _ c.before.before.before.before.before.prepare.ensures.0 _ _
+    admit_ready _ _ _ _ c.before.before.before.before.before.prepare.ensures.0 _ _
     c.before.before.prepared.given.1 c.before.before.before.before.before.prepare.ensures.1
 
 pub admit-spec : {M : Type 1} → statement M

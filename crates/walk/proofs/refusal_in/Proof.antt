@@ -1,4 +1,4 @@
--- `refusal_in` is `refusalIn`, arm by arm.
+-- `refusal_in` is `refusal_in`, arm by arm.
 use borrow.Author.Rules.{rules}
 use Rattle.walk.proofs.refusal_in.Statement.{statement}
 use Rattle.walk.proofs.refusal_in.Tie as tie

@@ -1,9 +1,9 @@
--- `record_of` is `stopRecord` field by field: a position is a number below 4,096, and the replies passed are counted from `from`.
+-- `record_of` is `stop_record` field by field: a position is a number below 4,096, and the replies passed are counted from `from`.
 use mathlib.Core.Path.{◌∙◌}
 use native.Mathlib.Omega.{arith}
 use borrow.Author.Rules.{rules}
-use Rattle.answers.specs.model.Visit.{recordAt}
-use Rattle.whole_run.specs.model.Along.{stopRecord}
+use Rattle.answers.specs.model.Visit.{record_at}
+use Rattle.whole_run.specs.model.Along.{stop_record}
 use Rattle.whole_run.proofs.record_of.Statement.{statement}
 use Rattle.whole_run.proofs.record_of.Tie as tie
 
@@ -22,8 +22,8 @@ cast-t14 c = search rules
 add-t16 : tie.Need-overflow-add-t16
 add-t16 c =
     let at-u64-of-size = c.before.before.before in
-    let at-start = at-u64-of-size.before.before.before.before.before.before.before in
-    omega (arith, at-u64-of-size.u64-of-size.ensures, at-start.requires.1.0, at-start.requires.1.1.0, at-start.well-formed.1.1.1.0.1)
+    let at_start = at-u64-of-size.before.before.before.before.before.before.before in
+    omega (arith, at-u64-of-size.u64-of-size.ensures, at_start.requires.1.0, at_start.requires.1.1.0, at_start.well-formed.1.1.1.0.1)
 
 gathered-requires : tie.Need-gathered-requires
 gathered-requires c κs = search rules
@@ -32,14 +32,14 @@ ended-at-requires : tie.Need-ended-at-requires
 ended-at-requires c κs = search rules
 
 returns : tie.Need-returns
-unfolding stopRecord recordAt
+unfolding stop_record record_at
 returns c =
     let at-gathered = c.before.before.before in
     simp c.before.if1.true (c.ended_at.ensures
     ∙ simp (at-gathered.gathered.ensures, at-gathered.before.before.before.before.u64-of-size.ensures))
 
 returns-2 : tie.Need-returns-2
-unfolding stopRecord recordAt
+unfolding stop_record record_at
 returns-2 c =
     let at-gathered = c.before.before in
     rw (c.if1.false, at-gathered.gathered.ensures, at-gathered.before.before.before.before.u64-of-size.ensures)

@@ -4,11 +4,11 @@ use native.Mathlib.Omega.{arith}
 use borrow.Author.Rules.{rules}
 use lib.ListN.{length}
 use Rattle.step.proofs.PlanLaws.{going_start}
-use Rattle.step.proofs.StepLaws.{prepared-ready}
+use Rattle.step.proofs.StepLaws.{prepared_ready}
 use Rattle.step.specs.model.Onward.{PreparedFor}
 use Rattle.row.specs.model.Words.{Answered, ReadAs}
-use Rattle.whole_run.proofs.WholeRun.{whole-refused, grounds, whole-unformed, start-stage, whole_run}
-use Rattle.whole_run.proofs.Turns.{grounds-at}
+use Rattle.whole_run.proofs.WholeRun.{whole_refused, grounds, whole_unformed, start_stage, whole_run}
+use Rattle.whole_run.proofs.Turns.{grounds_at}
 use Rattle.whole_run.proofs.run_row.Statement.{statement}
 use Rattle.whole_run.proofs.run_row.Tie as tie
 
@@ -22,7 +22,7 @@ module _ (a : tie.After-prepared) where
 
   ready : PreparedFor start.args.list.now at-prepare.prepare.last.1.0 a.prepared.given.0.0.sizes a.prepared.given.0.0.counts
       (length start.args.incoming.now) (length start.args.outgoing.now)
-  ready = prepared-ready _ _ _ _ at-prepare.prepare.ensures.0 _ at-prepare.prepare.ensures.1 _ a.prepared.given.1
+  ready = prepared_ready _ _ _ _ at-prepare.prepare.ensures.0 _ at-prepare.prepare.ensures.1 _ a.prepared.given.1
       (λ i. omega (arith, at-prepare.before.before.before.before.before.shared-slice-known.given i)) at-prepare.prepare.kept.1.0
 
 -- and the row is formed
@@ -52,7 +52,7 @@ returns c =
     let at-enum-told = c.before.before in
     let at-prepare = at-enum-told.before.before.before in
     let start = at-prepare.before.before.before.before.before.before in
-    whole-refused _ _ start.args.outgoing.now start.args.row.now _ _ _ _ at-prepare.prepare.ensures.0
+    whole_refused _ _ start.args.outgoing.now start.args.row.now _ _ _ _ at-prepare.prepare.ensures.0
     at-enum-told.enum_told.given.1 c.before.refusal-in.ensures c.refused-run.ensures
 
 read-row-requires : tie.Need-read-row-requires
@@ -70,7 +70,7 @@ refused-run-requires-2 c κs = search rules
 returns-2 : tie.Need-returns-2
 returns-2 c =
     let a = c.before.before.before.before.before in
-    whole-unformed _ _ _ (start a).args.row.now _ _ _ (ready a) _
+    whole_unformed _ _ _ (start a).args.row.now _ _ _ (ready a) _
     (subst (ReadAs (start a).args.row.now) c.before.enum-told2.given.1 c.before.before.before.read-row.ensures) c.refused-run2.ensures
 
 slice-aggregate-run-on : tie.Need-slice-aggregate-run-on
@@ -102,10 +102,10 @@ run-replies-requires : tie.Need-run-replies-requires
 run-replies-requires c κs =
     let at-run-on = c.before.before.before.before.before in let at-zero-record = at-run-on.before.before in
     let at_read = at-zero-record.before.before.before.before.before in let a = at_read.before.before.before.before in (
-      grounds-at at-run-on.run_on.auto.1.1.1.1.1.0
+      grounds_at at-run-on.run_on.auto.1.1.1.1.1.0
           (grounds _ (start a).args.incoming.now (start a).args.outgoing.now (start a).args.row.now _ _ _ (ready a)),
       (
-        start-stage _
+        start_stage _
             (start a).args.incoming.now (start a).args.outgoing.now (start a).args.row.now _ _ _ (ready a) _ _ _ at-zero-record.zero-record.ensures
             (λ out. rw at-zero-record.before.first-spot.ensures at (at-run-on.run_on.ensures.0 out)),
         answered at_read,

@@ -4,8 +4,8 @@ use mathlib.Core.Path.{refl}
 use native.Mathlib.Omega.{arith}
 use borrow.Author.Rules.{rules}
 use Rattle.step.proofs.PlanLaws.{askable}
-use Rattle.row.proofs.RowLaws.{formed-here}
-use Rattle.whole_run.proofs.Turns.{ready, going, moves, decoded-as, no_other}
+use Rattle.row.proofs.RowLaws.{formed_here}
+use Rattle.whole_run.proofs.Turns.{ready, going, moves, decoded_as, no_other}
 use Rattle.whole_run.proofs.take_other.Statement.{statement}
 use Rattle.whole_run.proofs.take_other.Tie as tie
 
@@ -32,13 +32,13 @@ returns c =
 reply-at-requires : tie.Need-reply-at-requires
 reply-at-requires c κs =
     let p = c.before.before.before.before.before.before.before.before.before.before.requires in
-    let here = formed-here _ _ p.1.0.0 p.1.0.1 in (here.eight, here.formed)
+    let here = formed_here _ _ p.1.0.0 p.1.0.1 in (here.eight, here.formed)
 
 take-here-requires : tie.Need-take-here-requires
 take-here-requires c κs =
     let at_i = c.before.before.before in let at-instruction-at = at_i.before.before in
     let p = at-instruction-at.before.before.before.before.before.before.before.requires in
-    let al = decoded-as _ _ _ _ p.0 _ p.1.1.0 p.1.1.1 _ at-instruction-at.instruction-at.ensures _ at_i.i.given.1 in
+    let al = decoded_as _ _ _ _ p.0 _ p.1.1.0 p.1.1.1 _ at-instruction-at.instruction-at.ensures _ at_i.i.given.1 in
     ready _ _ _ _ p.0 _ _ al _ refl
 
 resume-requires : tie.Need-resume-requires
@@ -46,7 +46,7 @@ resume-requires c κs =
     let at-take-here = c.before.before.before in
     let at_i = at-take-here.before.before.before.before in let at-instruction-at = at_i.before.before in
     let p = at-instruction-at.before.before.before.before.before.before.before.requires in
-    let al = decoded-as _ _ _ _ p.0 _ p.1.1.0 p.1.1.1 _ at-instruction-at.instruction-at.ensures _ at_i.i.given.1 in
+    let al = decoded_as _ _ _ _ p.0 _ p.1.1.0 p.1.1.1 _ at-instruction-at.instruction-at.ensures _ at_i.i.given.1 in
     let taken = at-take-here.take-here.ensures in (
       omega (arith, p.0.prepared.entries, p.0.prepared.planned.few),
       (
@@ -67,7 +67,7 @@ returns-2 c =
     let at-reply-at = at-take-here.before.before in
     let at_i = at-reply-at.before.before in let at-instruction-at = at_i.before.before in
     let p = at-instruction-at.before.before.before.before.before.before.before.requires in
-    let al = decoded-as _ _ _ _ p.0 _ p.1.1.0 p.1.1.1 _ at-instruction-at.instruction-at.ensures _ at_i.i.given.1 in
+    let al = decoded_as _ _ _ _ p.0 _ p.1.1.0 p.1.1.1 _ at-instruction-at.instruction-at.ensures _ at_i.i.given.1 in
     let taken = at-take-here.take-here.ensures in
     moves _ _ _ _ p.0 _ _ al _ _ _ taken.1 _ taken.0 _ _ p.1.0.0 p.1.0.1 at-reply-at.reply-at.ensures _ _
     at-resume.resume.ensures

@@ -2,20 +2,20 @@
 -- document 01.
 use Rattle.std.specs.Prelude.{ℕ, ◌≤◌, ◌≡◌, true, false, List, length, get_or}
 use Rattle.base.specs.Checks.{if◌then◌else◌}
-use Rattle.camac.specs.Words.{commandIn, words_of, position_of}
+use Rattle.camac.specs.Words.{command_in, words_of, position_of}
 use Rattle.camac.specs.model.Bits.{Passes}
 use Rattle.camac.specs.declared.words.Command.{Command}
 use Rattle.packing.specs.declared.Marks.{Marks}
-use Rattle.listfile.specs.model.Table.{instructionAt, TableRight}
+use Rattle.listfile.specs.model.Table.{instruction_at, TableRight}
 use Rattle.listfile.specs.declared.field.Instruction.{Instruction}
 use Rattle.listfile.specs.declared.field.Instruction.TheVariants.{Camac, Halt}
-use Rattle.walk.specs.Walk.{marksOver}
-use Rattle.walk.specs.model.Sums.{restFrom}
+use Rattle.walk.specs.Walk.{marks_over}
+use Rattle.walk.specs.model.Sums.{rest_from}
 use Rattle.walk.specs.declared.visits.Spot.{Spot}
 use Rattle.walk.proofs.Rest.{OnWalk}
-use Rattle.reply.specs.Effect.{endedAt, withMarks, runOn, state_of}
+use Rattle.reply.specs.Effect.{ended_at, with_marks, run_on, state_of}
 use Rattle.reply.specs.declared.records.Record.{Record}
-use Rattle.answers.specs.model.Visit.{place_of, recordAt}
+use Rattle.answers.specs.model.Visit.{place_of, record_at}
 use Rattle.whole_run.specs.declared.along.Reached.{Reached}
 use Rattle.whole_run.specs.declared.along.Stop.{Stop}
 use Rattle.answers.specs.declared.Stay.{Stay}
@@ -23,7 +23,7 @@ use Rattle.answers.specs.declared.Stay.{Stay}
 -- a spot of the walk, with room for the literals and words of the walk from there
 pub record Ahead (list : List ℕ) (count : ℕ) (k : Spot) (m : Marks) (b : List ℕ) : Type 0 where
   pub on : OnWalk list count k
-  pub room : (marksOver (restFrom list count k) m).incoming ≤ length b
+  pub room : (marks_over (rest_from list count k) m).incoming ≤ length b
 
 -- the table of an admitted list
 pub record Tabled (list table : List ℕ) (count : ℕ) : Type 0 where
@@ -35,17 +35,17 @@ pub record Tabled (list table : List ℕ) (count : ℕ) : Type 0 where
 pub record AtCommand (i : Instruction) (first words : ℕ) : Type 0 where
   pub second : ℕ
   pub passes : Passes first
-  pub is : i ≡ Camac (commandIn first second)
-  pub wanted : words ≡ words_of (commandIn first second).transfer
+  pub is : i ≡ Camac (command_in first second)
+  pub wanted : words ≡ words_of (command_in first second).transfer
 
 -- from a spot to the next CAMAC instruction or the halt
 pub record Reaches (list table : List ℕ) (count : ℕ) (from : Spot) (m : Marks) (b : List ℕ) (x : Reached) (b' : List ℕ) : Type 0 where
   pub ahead : Ahead list count x.spot x.marks b'
-  pub halt : x.halted ≡ true → instructionAt list (get_or table x.spot.instruction 0) ≡ Halt
-  pub command : x.halted ≡ false → AtCommand (instructionAt list (get_or table x.spot.instruction 0)) x.first x.words
+  pub halt : x.halted ≡ true → instruction_at list (get_or table x.spot.instruction 0) ≡ Halt
+  pub command : x.halted ≡ false → AtCommand (instruction_at list (get_or table x.spot.instruction 0)) x.first x.words
   pub goes : (r : Record) → r.marks ≡ m → (out : List ℕ)
-      → runOn (restFrom list count from) (state_of r b out)
-      ≡ runOn (restFrom list count x.spot) (state_of (withMarks x.marks r) b' out)
+      → run_on (rest_from list count from) (state_of r b out)
+      ≡ run_on (rest_from list count x.spot) (state_of (with_marks x.marks r) b' out)
 
 -- at the first word of an instruction
 unfoldable pub arrived : Command → Marks → Stay → Stay
@@ -63,8 +63,8 @@ unfoldable pub between : Marks → Stay → Stay
 between m s = record { taken = s.taken; left = 0; tries = 0; position = 0; marks = m; note = s.note }
 
 -- the stay of a record before reply number `taken`
-unfoldable pub stayOf : Record → ℕ → Stay
-stayOf r taken = record {
+unfoldable pub stay_of : Record → ℕ → Stay
+stay_of r taken = record {
   taken = taken;
   left = r.left;
   tries = r.tries;
@@ -74,6 +74,6 @@ stayOf r taken = record {
 }
 
 -- the record at which the run stops; r is the record before reply number `from` of the row
-unfoldable pub stopRecord : Record → List ℕ → ℕ → Stop → Record
-stopRecord r row from x =
-    if x.halted then endedAt x.spot 0 (recordAt r row from x.spot x.stay) else recordAt r row from x.spot x.stay
+unfoldable pub stop_record : Record → List ℕ → ℕ → Stop → Record
+stop_record r row from x =
+    if x.halted then ended_at x.spot 0 (record_at r row from x.spot x.stay) else record_at r row from x.spot x.stay

@@ -20,7 +20,7 @@ pub fn operation(wanted: &Operation) -> String {
 /// A record with both buffers.
 pub fn state(record: &Record, (incoming, outgoing): (&[u8], &[u8])) -> String {
     let record = record_form(record);
-    format!("(stateOf {record} {} {})", hex(incoming), hex(outgoing))
+    format!("(state_of {record} {} {})", hex(incoming), hex(outgoing))
 }
 
 /// A record, by its numbers.
@@ -73,7 +73,7 @@ fn one_field(bytes: &[u8]) -> Option<(String, &[u8])> {
     let short = |bytes: [u8; 2]| u16::from_le_bytes(bytes);
     match *bytes {
         [1, 4, 0, 1, 0, a, b, ref rest @ ..] => {
-            Some((format!("firstField {}", short([a, b])), rest))
+            Some((format!("first_field {}", short([a, b])), rest))
         }
         [0x10, 4, 0, a, b, c, d, ref rest @ ..] => {
             Some((format!("camac-4 {}", word([a, b, c, d])), rest))

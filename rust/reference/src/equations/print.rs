@@ -57,26 +57,26 @@ const KNOWN: [(&str, &[&str]); 11] = [
     ("mathlib.Core.List", &["List", "[]", "_∷_", "_++_"]),
     (
         "Rattle·listfile.specs.Fields",
-        &["fieldsFrom", "fields", "faulty"],
+        &["fields_from", "fields", "faulty"],
     ),
-    ("Rattle·walk.specs.Admission", &["admitOf"]),
-    ("Rattle·reply.specs.Effect", &["stateOf"]),
+    ("Rattle·walk.specs.Admission", &["admit_of"]),
+    ("Rattle·reply.specs.Effect", &["state_of"]),
     ("Rattle·reply.specs.declared.records.Record", &["Record"]),
     (
         "Rattle·calls.specs.Calls",
         &[
             "Called",
-            "startOf",
-            "stepOf",
+            "start_of",
+            "step_of",
             "RunThrough",
-            "runOf",
-            "lastMoved",
-            "noPart",
+            "run_of",
+            "last_moved",
+            "no_part",
         ],
     ),
     (
         "Rattle·worst_count.specs.Cases",
-        &["firstField", "jump", "literal", "halt"],
+        &["first_field", "jump", "literal", "halt"],
     ),
     (
         "Rattle·equations·specs.specs.Forms",
@@ -97,12 +97,12 @@ const KNOWN: [(&str, &[&str]); 11] = [
             "note",
             "admitted",
             "refused",
-            "haltAt",
-            "refusedAt",
+            "halt_at",
+            "refused_at",
             "operation",
             "wants",
-            "wantsNone",
-            "refusedWith",
+            "wants_none",
+            "refused_with",
             "ran",
             "part",
         ],
@@ -163,7 +163,7 @@ fn parts(call: &Call) -> Vec<Part> {
             ..
         } => {
             let list = without_last[0].clone();
-            let state = format!("(stateOf r {} {})", hex(incoming), hex(outgoing));
+            let state = format!("(state_of r {} {})", hex(incoming), hex(outgoing));
             let by_record = Part {
                 parameter: (" r", "Record"),
                 answer: "Called",
@@ -241,7 +241,7 @@ fn definition(name: &str, part: &Part) -> String {
     format!("abbrev pub {name} : {its_type} → {answer}\n{line}\n\n")
 }
 
-/// `one-word` as `OneWord`.
+/// `one_word` as `OneWord`.
 fn type_name(name: &str) -> String {
     let capital = |word: &str| word[..1].to_uppercase() + &word[1..];
     name.split('-').map(capital).collect()
@@ -302,7 +302,7 @@ fn sides(call: &Call) -> (Vec<String>, String) {
             incoming_len,
             outgoing_len,
         } => {
-            let call = format!("admitOf {} {incoming_len} {outgoing_len}", fields(list));
+            let call = format!("admit_of {} {incoming_len} {outgoing_len}", fields(list));
             let answer = admit(list, *incoming_len, *outgoing_len);
             (vec![call], admission(answer))
         }
@@ -335,7 +335,7 @@ fn sides(call: &Call) -> (Vec<String>, String) {
 
 fn start_sides(list: &[u8], buffers: (&[u8], &[u8])) -> (Vec<String>, String) {
     let call = vec![
-        format!("startOf {}", fields(list)),
+        format!("start_of {}", fields(list)),
         format!("{} {}", hex(buffers.0), hex(buffers.1)),
     ];
     let (answer, after) = started(list, buffers.0, buffers.1);
@@ -349,7 +349,7 @@ fn step_sides(
     reply: &[u8],
 ) -> (Vec<String>, String) {
     let call = vec![
-        format!("stepOf {}", fields(list)),
+        format!("step_of {}", fields(list)),
         state(record, buffers),
         one_reply(reply),
     ];
@@ -367,13 +367,13 @@ fn admission(answer: Result<Counts, Refusal>) -> String {
 /// The fields with halts before them, as admission reads the whole list.
 fn fields_read(before: usize, part: &[u8]) -> (Vec<String>, String) {
     let length = part.len();
-    let call = format!("fieldsFrom {length} {} 0 {before}", fields(part));
+    let call = format!("fields_from {length} {} 0 {before}", fields(part));
     let (list, place) = super::admissions::behind_halts(before, part);
     let answer = match admit(&list, 0, 0) {
-        Err(refusal) => format!("refusedAt {} {}", refusal.number, refusal.place - place),
+        Err(refusal) => format!("refused_at {} {}", refusal.number, refusal.place - place),
         Ok(_) => {
             let places = (0..length).step_by(3);
-            let halts: String = places.map(|place| format!("haltAt {place} ∷ ")).collect();
+            let halts: String = places.map(|place| format!("halt_at {place} ∷ ")).collect();
             format!("fields ({halts}[])")
         }
     };
@@ -382,7 +382,7 @@ fn fields_read(before: usize, part: &[u8]) -> (Vec<String>, String) {
 
 fn run_sides(list: &[u8], buffers: (&[u8], &[u8]), row: &[u8]) -> (Vec<String>, String) {
     let call = vec![
-        format!("runOf {}", fields(list)),
+        format!("run_of {}", fields(list)),
         format!("{} {}", hex(buffers.0), hex(buffers.1)),
         replies(row),
     ];
@@ -402,13 +402,13 @@ fn last_word(note: &Note, incoming: &[u8], outgoing: &[u8]) -> (Vec<String>, Str
         length,
     } = note;
     let call = format!(
-        "lastMoved (note {buffer} {offset} {length}) {} {}",
+        "last_moved (note {buffer} {offset} {length}) {} {}",
         hex(incoming),
         hex(outgoing)
     );
     let (carrier, part) = last_moved(incoming, outgoing, note);
     if part.is_empty() {
-        return (vec![call], "noPart".to_string());
+        return (vec![call], "no_part".to_string());
     }
     let whole = if carrier == 0 { incoming } else { outgoing };
     let offset = part.as_ptr() as usize - whole.as_ptr() as usize;
@@ -418,8 +418,8 @@ fn last_word(note: &Note, incoming: &[u8], outgoing: &[u8]) -> (Vec<String>, Str
 fn called(answer: &Answer, buffers: (&[u8], &[u8])) -> String {
     let state = state(&answer.record, buffers);
     match answer.refusal {
-        Some(Refusal { number, place }) => format!("refusedWith {number} {place} {state}"),
-        None if answer.wanted == Operation::default() => format!("wantsNone {state}"),
+        Some(Refusal { number, place }) => format!("refused_with {number} {place} {state}"),
+        None if answer.wanted == Operation::default() => format!("wants_none {state}"),
         None => format!("wants {} {state}", operation(&answer.wanted)),
     }
 }

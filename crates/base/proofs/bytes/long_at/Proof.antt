@@ -1,9 +1,9 @@
--- `long_at` is `longAt`: read at once where all four bytes are there; what lies past the end is zero.
+-- `long_at` is `long_at`: read at once where all four bytes are there; what lies past the end is zero.
 use borrow.Author.Rules.{rules}
 use mathlib.Core.Path.{sym}
 use native.Mathlib.Omega.{arith}
-use Rattle.base.specs.Bytes.{byteAt, short_at}
-use Rattle.base.proofs.Past.{long-past, long-two, long-three}
+use Rattle.base.specs.Bytes.{byte_at, short_at}
+use Rattle.base.proofs.Past.{long_past, long_two, long_three}
 use Rattle.base.proofs.bytes.long_at.Statement.{statement}
 use Rattle.base.proofs.bytes.long_at.Tie as tie
 
@@ -17,7 +17,7 @@ returns : tie.Need-returns
 returns c = c.whole-at.ensures
 
 returns-2 : tie.Need-returns-2
-returns-2 c = sym (long-past _ _ c.if2.true)
+returns-2 c = sym (long_past _ _ c.if2.true)
 
 sub-left : tie.Need-overflow-sub-left
 sub-left c = search rules
@@ -44,10 +44,10 @@ add_low : tie.Need-overflow-add-low
 add_low c = search rules
 
 returns-3 : tie.Need-returns-3
-unfolding short_at byteAt
+unfolding short_at byte_at
 returns-3 c =
     simp (c.before.u32-of2.ensures.0, c.before.before.byte_at.ensures, c.before.before.before.u32-of.ensures.0)
-    (sym (long-two _ _ (omega arith)))
+    (sym (long_two _ _ (omega arith)))
 
 add-u32-of : tie.Need-overflow-add-u32-of
 add-u32-of c = search rules
@@ -65,7 +65,7 @@ add-result : tie.Need-overflow-add-result
 add-result c = search rules
 
 returns-4 : tie.Need-returns-4
-unfolding short_at byteAt
+unfolding short_at byte_at
 returns-4 c =
     simp (
       c.u32-of3.ensures.0,
@@ -73,7 +73,7 @@ returns-4 c =
       c.before.before.before.before.byte_at.ensures,
       c.before.before.before.before.before.u32-of.ensures.0,
     )
-    (sym (long-three _ _ (omega arith)))
+    (sym (long_three _ _ (omega arith)))
 
 pub long-at-spec : {M : Type 1} → statement M
 long-at-spec =

@@ -1,7 +1,7 @@
 -- `pair_at` is `short_at`: two bytes below 256, the second 256 times.
 use borrow.Author.Rules.{rules}
 use native.Mathlib.Omega.{arith}
-use Rattle.base.specs.Bytes.{byteAt, short_at}
+use Rattle.base.specs.Bytes.{byte_at, short_at}
 use Rattle.base.proofs.bytes.pair_at.Statement.{statement}
 use Rattle.base.proofs.bytes.pair_at.Tie as tie
 
@@ -27,7 +27,7 @@ add-result : tie.Need-overflow-add-result
 add-result c = search rules
 
 returns : tie.Need-returns
-unfolding short_at byteAt
+unfolding short_at byte_at
 returns c = (simp (c.usize-of2.ensures.0, c.before.before.usize-of.ensures.0), omega arith)
 
 pub pair-at-spec : {M : Type 1} → statement M

@@ -2,13 +2,13 @@
 use borrow.Author.Rules.{rules}
 use mathlib.Core.Path.{sym, ◌∙◌}
 use native.Mathlib.Omega.{arith}
-use Rattle.base.specs.Bytes.{byteAt}
-use Rattle.base.proofs.Past.{short-past, short-one}
+use Rattle.base.specs.Bytes.{byte_at}
+use Rattle.base.proofs.Past.{short_past, short_one}
 use Rattle.base.proofs.bytes.short_at.Statement.{statement}
 use Rattle.base.proofs.bytes.short_at.Tie as tie
 
 returns : tie.Need-returns
-returns c = (sym (short-past _ _ c.if1.true), search rules)
+returns c = (sym (short_past _ _ c.if1.true), search rules)
 
 sub-if2 : tie.Need-overflow-sub-if2
 sub-if2 c = search rules
@@ -20,8 +20,8 @@ usize-of-requires : tie.Need-usize-of-requires
 usize-of-requires c κs = search rules
 
 returns-2 : tie.Need-returns-2
-unfolding byteAt
-returns-2 c = (c.usize-of.ensures.0 ∙ sym (short-one _ _ (omega arith)), omega arith)
+unfolding byte_at
+returns-2 c = (c.usize-of.ensures.0 ∙ sym (short_one _ _ (omega arith)), omega arith)
 
 pair-at-requires : tie.Need-pair-at-requires
 pair-at-requires c κs = search rules

@@ -1,8 +1,8 @@
--- `whole_at` is `longAt`: the four bytes are all there, and one sum of them is the two halves'.
+-- `whole_at` is `long_at`: the four bytes are all there, and one sum of them is the two halves'.
 use borrow.Author.Rules.{rules}
 use mathlib.Core.Path.{sym}
-use Rattle.base.specs.Bytes.{byteAt}
-use Rattle.base.proofs.Past.{long-whole}
+use Rattle.base.specs.Bytes.{byte_at}
+use Rattle.base.proofs.Past.{long_whole}
 use Rattle.base.proofs.bytes.whole_at.Statement.{statement}
 use Rattle.base.proofs.bytes.whole_at.Tie as tie
 
@@ -58,14 +58,14 @@ add-result-3 : tie.Need-overflow-add-result-3
 add-result-3 c = search rules
 
 returns : tie.Need-returns
-unfolding byteAt
+unfolding byte_at
 returns c = simp (
   c.u32-of4.ensures.0,
   c.before.before.u32-of3.ensures.0,
   c.before.before.before.before.u32-of2.ensures.0,
   c.before.before.before.before.before.before.u32-of.ensures.0,
 )
-    (sym (long-whole _ _))
+    (sym (long_whole _ _))
 
 pub whole-at-spec : {M : Type 1} → statement M
 whole-at-spec =

@@ -1,6 +1,6 @@
--- `fits_command` is `fitsCommand`: the same tests joined.
+-- `fits_command` is `fits_command`: the same tests joined.
 use borrow.Author.Rules.{rules}
-use Rattle.calls.proofs.FitCases.{command-joined}
+use Rattle.calls.proofs.FitCases.{command_joined}
 use Rattle.calls.proofs.fit.fits_command.Statement.{statement}
 use Rattle.calls.proofs.fit.fits_command.Tie as tie
 
@@ -26,7 +26,7 @@ note-fits-requires : tie.Need-note-fits-requires
 note-fits-requires c κs = search rules
 
 returns : tie.Need-returns
-returns c = command-joined _ _ _ _ _ _ _ _ _ _ c.before.before.before.before.before.before.before.before.before.before.before.before.qmode-of.ensures c.before.before.before.before.before.before.before.before.before.before.before.u64-of-size.ensures c.before.before.before.before.before.before.words_of.ensures c.before.before.before.before.before.tries-fit.ensures c.before.before.before.before.position-of.ensures c.before.before.before.position-fits.ensures c.note-fits.ensures
+returns c = command_joined _ _ _ _ _ _ _ _ _ _ c.before.before.before.before.before.before.before.before.before.before.before.before.qmode-of.ensures c.before.before.before.before.before.before.before.before.before.before.before.u64-of-size.ensures c.before.before.before.before.before.before.words_of.ensures c.before.before.before.before.before.tries-fit.ensures c.before.before.before.before.position-of.ensures c.before.before.before.position-fits.ensures c.note-fits.ensures
 
 pub fits-command-spec : {M : Type 1} → statement M
 fits-command-spec =

@@ -1,6 +1,6 @@
--- `fits_walk` is `fitsWalk`: marks, and operations with the most still possible, which few words left and R keep small.
+-- `fits_walk` is `fits_walk`: marks, and operations with the most still possible, which few words left and R keep small.
 use borrow.Author.Rules.{rules}
-use Rattle.calls.specs.model.Bounds.{fitsWalk}
+use Rattle.calls.specs.model.Bounds.{fits_walk}
 use Rattle.calls.proofs.fit.fits_walk.Statement.{statement}
 use Rattle.calls.proofs.fit.fits_walk.Tie as tie
 
@@ -17,7 +17,7 @@ is-within-requires : tie.Need-is-within-requires
 is-within-requires c κs = search rules
 
 returns : tie.Need-returns
-unfolding fitsWalk
+unfolding fits_walk
 returns c = simp (c.is_Within.ensures, c.before.marks-fit.ensures, c.before.before.most-left.ensures, c.before.before.before.before.qmode-of.ensures)
 
 pub fits-walk-spec : {M : Type 1} → statement M

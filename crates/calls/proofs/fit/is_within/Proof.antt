@@ -2,7 +2,7 @@
 use Prim.Native.Nat.{◌+◌, ◌-◌}
 use native.Mathlib.Omega.{arith}
 use borrow.Author.Tests.{lt-leb}
-use Rattle.base.proofs.Tests.{leb-same}
+use Rattle.base.proofs.Tests.{leb_same}
 use Rattle.calls.proofs.fit.is_within.Statement.{statement}
 use Rattle.calls.proofs.fit.is_within.Tie as tie
 
@@ -11,7 +11,7 @@ returns c = simp (lt-leb (c.before.args.offset + c.before.args.size) c.before.ar
 
 returns-2 : tie.Need-returns-2
 returns-2 c =
-    leb-same
+    leb_same
     c.before.args.offset
     (c.before.args.end - c.before.args.size)
     (c.before.args.offset + c.before.args.size)

@@ -1,6 +1,6 @@
--- `marks_fit` is `marksFit`: `moved_words` of the words done is `movedWords`, and each mark is tested against its own.
+-- `marks_fit` is `marks_fit`: `moved_words` of the words done is `moved_words`, and each mark is tested against its own.
 use borrow.Author.Rules.{rules}
-use Rattle.calls.specs.Fit.{marksFit}
+use Rattle.calls.specs.Fit.{marks_fit}
 use Rattle.calls.proofs.fit.marks_fit.Statement.{statement}
 use Rattle.calls.proofs.fit.marks_fit.Tie as tie
 
@@ -23,7 +23,7 @@ mark-fits-requires-2 : tie.Need-mark-fits-requires-2
 mark-fits-requires-2 c κs = search rules
 
 returns : tie.Need-returns
-unfolding marksFit
+unfolding marks_fit
 returns c =
     let there = c.before.before in
     simp (c.mark-fits2.ensures, c.before.mark-fits.ensures, there.moved-words.ensures, there.before.u64-of-size.ensures, there.before.before.words_of.ensures)

@@ -1,6 +1,6 @@
--- `moved_words` is `movedWords`: by the direction, one mark after so many words in closed form.
+-- `moved_words` is `moved_words`: by the direction, one mark after so many words in closed form.
 use borrow.Author.Rules.{rules}
-use Rattle.calls.proofs.FitCases.{words-incoming, words-outgoing, words-neither}
+use Rattle.calls.proofs.FitCases.{words_incoming, words_outgoing, words_neither}
 use Rattle.calls.proofs.fit.moved_words.Statement.{statement}
 use Rattle.calls.proofs.fit.moved_words.Tie as tie
 
@@ -31,7 +31,7 @@ enum-told-3 c = search rules
 returns : tie.Need-returns
 returns c =
     simp (c.mark-after-words.ensures, c.before.u64-of-size.ensures)
-    (words-incoming _ _
+    (words_incoming _ _
     c.before.before.before.before.direction-of.ensures
     _ c.before.before.enum_told.given.1
     _)
@@ -39,13 +39,13 @@ returns c =
 returns-2 : tie.Need-returns-2
 returns-2 c =
     simp (c.mark-after-words2.ensures, c.before.u64-of-size2.ensures)
-    (words-outgoing _ _
+    (words_outgoing _ _
     c.before.before.before.before.direction-of.ensures
     _ c.before.before.enum-told2.given.1
     _)
 
 returns-3 : tie.Need-returns-3
-returns-3 c = words-neither _ _ c.before.before.direction-of.ensures _ c.enum-told3.given.1 _
+returns-3 c = words_neither _ _ c.before.before.direction-of.ensures _ c.enum-told3.given.1 _
 
 pub moved-words-spec : {M : Type 1} → statement M
 moved-words-spec =

@@ -1,7 +1,7 @@
--- `note_fits` is `noteFits`: the same tests joined.
+-- `note_fits` is `note_fits`: the same tests joined.
 use borrow.Author.Rules.{rules}
 use mathlib.Core.Bool.{and-true, and_assoc}
-use Rattle.calls.specs.Fit.{noteFits}
+use Rattle.calls.specs.Fit.{note_fits}
 use Rattle.calls.proofs.fit.note_fits.Statement.{statement}
 use Rattle.calls.proofs.fit.note_fits.Tie as tie
 
@@ -12,7 +12,7 @@ is-within-requires-2 : tie.Need-is-within-requires-2
 is-within-requires-2 c κs = search rules
 
 returns : tie.Need-returns
-unfolding noteFits
+unfolding note_fits
 returns c = simp (c.is-within2.ensures, c.before.before.is_Within.ensures, and_assoc, and-true)
 
 pub note-fits-spec : {M : Type 1} → statement M

@@ -1,4 +1,4 @@
--- `last_moved` is `lastMoved`, its bytes and its place: the tests come in its order, and a note that lies in a buffer names that buffer
+-- `last_moved` is `last_moved`, its bytes and its place: the tests come in its order, and a note that lies in a buffer names that buffer
 -- and ends within it.
 use borrow.Author.Rules.{rules}
 use Prim.Native.Nat.{ℕ, ◌+◌, ◌-◌, ◌≤◌}
@@ -12,41 +12,41 @@ use lib.Dec.{leb, eqb}
 use lib.ListN.{length, take, drop}
 use Rattle.base.proofs.Bools.{and_left, and_right}
 use Rattle.reply.specs.declared.records.Note.{Note}
-use Rattle.calls.specs.Calls.{liesIn, lastMoved, place_of}
+use Rattle.calls.specs.Calls.{lies_in, last_moved, place_of}
 use Rattle.calls.proofs.last.last_moved.Statement.{statement}
 use Rattle.calls.proofs.last.last_moved.Tie as tie
 
-module _ (buffer end : ℕ) (note : Note) (e : liesIn buffer end note ≡ true) where
+module _ (buffer end : ℕ) (note : Note) (e : lies_in buffer end note ≡ true) where
   names : note.buffer ≡ buffer
-  unfolding liesIn
+  unfolding lies_in
   names = eqb-true _ _ (and_left (eqb note.buffer buffer) _ (and_right (leb 1 note.size) _ e))
 
   ends : note.offset + note.size ≤ end
-  unfolding liesIn
+  unfolding lies_in
   ends = leb-true _ _ (and_left _ true (and_right (eqb note.buffer buffer) _ (and_right (leb 1 note.size) _ e)))
 
 -- the contract of a part, by where it begins in its block (at) and where the two buffers do (p, q)
 module _ (note : Note) (incoming outgoing : List ℕ) (p q : ℕ × ℕ) (at : ℕ) where
   abbrev Shown : List ℕ → ℕ → Type 0
   Shown bytes block =
-      (bytes ≡ (lastMoved note incoming outgoing).bytes)
-      × ((block, at) ≡ place_of (lastMoved note incoming outgoing) p q)
+      (bytes ≡ (last_moved note incoming outgoing).bytes)
+      × ((block, at) ≡ place_of (last_moved note incoming outgoing) p q)
 
   shown-incoming :
-      liesIn 0 (length incoming) note ≡ true → at ≡ p.1 + note.offset
+      lies_in 0 (length incoming) note ≡ true → at ≡ p.1 + note.offset
       → Shown (take (note.offset + note.size - note.offset) (drop note.offset incoming)) p.0
-  unfolding lastMoved
+  unfolding last_moved
   shown-incoming e h = rw e (simp add-sub_cancel_left, rw (names 0 (length incoming) note e, h))
 
   shown-outgoing :
-      liesIn 0 (length incoming) note ≡ false → liesIn 1 (length outgoing) note ≡ true → at ≡ q.1 + note.offset
+      lies_in 0 (length incoming) note ≡ false → lies_in 1 (length outgoing) note ≡ true → at ≡ q.1 + note.offset
       → Shown (take (note.offset + note.size - note.offset) (drop note.offset outgoing)) q.0
-  unfolding lastMoved
+  unfolding last_moved
   shown-outgoing n e h = rw (n, e) (simp add-sub_cancel_left, rw (names 1 (length outgoing) note e, h))
 
   shown-none :
-      liesIn 0 (length incoming) note ≡ false → liesIn 1 (length outgoing) note ≡ false → at ≡ p.1 + 0 → Shown [] p.0
-  unfolding lastMoved
+      lies_in 0 (length incoming) note ≡ false → lies_in 1 (length outgoing) note ≡ false → at ≡ p.1 + 0 → Shown [] p.0
+  unfolding last_moved
   shown-none n m h = rw (n, m) (refl, rw h)
 
 lies-in-requires : tie.Need-lies-in-requires

@@ -1,7 +1,7 @@
--- `lies_in` is `liesIn`: the same three tests joined.
+-- `lies_in` is `lies_in`: the same three tests joined.
 use borrow.Author.Rules.{rules}
 use mathlib.Core.Bool.{and-true, and_assoc}
-use Rattle.calls.specs.Calls.{liesIn}
+use Rattle.calls.specs.Calls.{lies_in}
 use Rattle.calls.proofs.last.lies_in.Statement.{statement}
 use Rattle.calls.proofs.last.lies_in.Tie as tie
 
@@ -9,7 +9,7 @@ is-within-requires : tie.Need-is-within-requires
 is-within-requires c κs = search rules
 
 returns : tie.Need-returns
-unfolding liesIn
+unfolding lies_in
 returns c = simp (c.is_Within.ensures, and_assoc, and-true)
 
 pub lies-in-spec : {M : Type 1} → statement M

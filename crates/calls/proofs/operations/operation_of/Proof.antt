@@ -1,6 +1,6 @@
--- `operation_of` is `operationOf`: address, word and kind are what the callees for them ensure.
+-- `operation_of` is `operation_of`: address, word and kind are what the callees for them ensure.
 use borrow.Author.Rules.{rules}
-use Rattle.calls.specs.Calls.{operationOf}
+use Rattle.calls.specs.Calls.{operation_of}
 use Rattle.calls.proofs.operations.operation_of.Statement.{statement}
 use Rattle.calls.proofs.operations.operation_of.Tie as tie
 
@@ -14,7 +14,7 @@ is-enhanced-requires : tie.Need-is-enhanced-requires
 is-enhanced-requires c κs = search rules
 
 returns : tie.Need-returns
-unfolding operationOf
+unfolding operation_of
 returns c = simp (c.is-enhanced.ensures, c.before.word-wanted.ensures, c.before.before.before.before.address-of.ensures)
 
 pub operation-of-spec : {M : Type 1} → statement M

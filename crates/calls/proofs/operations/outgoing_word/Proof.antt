@@ -1,4 +1,4 @@
--- `outgoing_word` is `outgoingWord`, by the direction.
+-- `outgoing_word` is `outgoing_word`, by the direction.
 use borrow.Author.Rules.{rules}
 use Rattle.calls.proofs.operations.outgoing_word.Statement.{statement}
 use Rattle.calls.proofs.operations.outgoing_word.Tie as tie

@@ -1,6 +1,6 @@
--- `word_wanted` is `wordWanted`, by the transfer.
+-- `word_wanted` is `word_wanted`, by the transfer.
 use borrow.Author.Rules.{rules}
-use Rattle.calls.specs.Calls.{wordWanted}
+use Rattle.calls.specs.Calls.{word_wanted}
 use Rattle.calls.proofs.operations.word_wanted.Statement.{statement}
 use Rattle.calls.proofs.operations.word_wanted.Tie as tie
 
@@ -35,19 +35,19 @@ enum-known-t : tie.Need-enum-known-t
 enum-known-t c = search rules
 
 returns : tie.Need-returns
-unfolding wordWanted
+unfolding word_wanted
 returns c = simp (c.outgoing-word.ensures, c.before.direction-of.ensures, c.before.before.enum_told.given.1)
 
 returns-2 : tie.Need-returns-2
-unfolding wordWanted
+unfolding word_wanted
 returns-2 c = simp (c.outgoing-word2.ensures, c.before.direction-of2.ensures, c.before.before.enum-told2.given.1)
 
 returns-3 : tie.Need-returns-3
-unfolding wordWanted
+unfolding word_wanted
 returns-3 c = simp (c.outgoing-word3.ensures, c.before.direction-of3.ensures, c.before.before.enum-told3.given.1)
 
 returns-4 : tie.Need-returns-4
-unfolding wordWanted
+unfolding word_wanted
 returns-4 c = simp c.before.t.given.1
 
 pub word-wanted-spec : {M : Type 1} → statement M

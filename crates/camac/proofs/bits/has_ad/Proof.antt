@@ -1,4 +1,4 @@
--- `has_ad` is `adIn`: for bit 0 a quotient by 1 is the number itself.
+-- `has_ad` is `ad_in`: for bit 0 a quotient by 1 is the number itself.
 use native.Mathlib.Nat.{div-one}
 use Rattle.camac.proofs.bits.has_ad.Statement.{statement}
 use Rattle.camac.proofs.bits.has_ad.Tie as tie

@@ -1,4 +1,4 @@
--- `is_sequencer` is `isSequencerIn`: the transfer mode lies above the Q-mode, so that both are one number.
+-- `is_sequencer` is `is_sequencer_in`: the transfer mode lies above the Q-mode, so that both are one number.
 use native.Mathlib.Omega.{arith}
 use Rattle.camac.proofs.BitLaws.{both_bits}
 use Rattle.camac.proofs.bits.is_sequencer.Statement.{statement}

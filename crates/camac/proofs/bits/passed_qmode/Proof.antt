@@ -1,6 +1,6 @@
--- `passed_qmode` is `qmodeIn`: of a read it is the number's.
+-- `passed_qmode` is `qmode_in`: of a read it is the number's.
 use mathlib.Core.Path.{sym, ◌∙◌}
-use Rattle.camac.proofs.BitLaws.{read-qmode}
+use Rattle.camac.proofs.BitLaws.{read_qmode}
 use borrow.Author.Rules.{rules}
 use Rattle.camac.proofs.bits.passed_qmode.Statement.{statement}
 use Rattle.camac.proofs.bits.passed_qmode.Tie as tie
@@ -9,7 +9,7 @@ numbered-qmode-requires : tie.Need-numbered-qmode-requires
 numbered-qmode-requires c κs = search rules
 
 returns : tie.Need-returns
-returns c = c.numbered-qmode.ensures ∙ sym (read-qmode _ c.before.before.requires c.before.if1.true)
+returns c = c.numbered-qmode.ensures ∙ sym (read_qmode _ c.before.before.requires c.before.if1.true)
 
 qmode-in-requires : tie.Need-qmode-in-requires
 qmode-in-requires c κs = search rules

@@ -1,7 +1,7 @@
--- `address_in` is `addressIn`: the same quotients and remainders, each below 256.
+-- `address_in` is `address_in`: the same quotients and remainders, each below 256.
 use borrow.Author.Rules.{rules}
 use mathlib.Core.Path.{refl}
-use Rattle.camac.specs.Words.{addressIn}
+use Rattle.camac.specs.Words.{address_in}
 use Rattle.camac.proofs.words.address_in.Statement.{statement}
 use Rattle.camac.proofs.words.address_in.Tie as tie
 
@@ -18,7 +18,7 @@ cast-t13 : tie.Need-overflow-cast-t13
 cast-t13 c = search rules
 
 returns : tie.Need-returns
-unfolding addressIn
+unfolding address_in
 returns c = refl
 
 pub address-in-spec : {M : Type 1} → statement M

@@ -1,37 +1,37 @@
--- `camac_fault` is `camacFault`: the callees are its tests in its order, so where one holds no earlier one does.
+-- `camac_fault` is `camac_fault`: the callees are its tests in its order, so where one holds no earlier one does.
 use borrow.Author.Rules.{rules}
 use mathlib.Core.Path.{◌≡◌, sym, ◌∙◌}
 use borrow.Author.Tests.{eq-eqb, ne_eqb}
 use lib.Dec.{eqb}
 use mathlib.Core.Bool.{false, ◌&&◌}
 use Rattle.base.specs.Checks.{if◌then◌else◌}
-use Rattle.camac.specs.Words.{modeIn, qmodeBits, zeroBitSet, badAddress, badMode, aboveP, commandIn, camacFault}
-use Rattle.camac.proofs.BitLaws.{scan-clause, single-fault}
+use Rattle.camac.specs.Words.{mode_in, qmode_bits, zero_bit_set, bad_address, bad_mode, above_p, command_in, camac_fault}
+use Rattle.camac.proofs.BitLaws.{scan_clause, single_fault}
 use Rattle.camac.proofs.words.camac_fault.Statement.{statement}
 use Rattle.camac.proofs.words.camac_fault.Tie as tie
 
-passes-6 : (c : tie.Else1) → zeroBitSet c.before.before.args.first ≡ false
+passes-6 : (c : tie.Else1) → zero_bit_set c.before.before.args.first ≡ false
 passes-6 c = sym c.before.is-zero-bit-set.ensures ∙ c.if1.false
 
-passes-7 : (c : tie.Else2) → badAddress c.before.before.before.before.args.first ≡ false
+passes-7 : (c : tie.Else2) → bad_address c.before.before.before.before.args.first ≡ false
 passes-7 c = sym c.before.is-bad-address.ensures ∙ c.if2.false
 
 -- a single: behind 6 and 7 its length is all that is left to refuse
 single :
     (c : tie.Then3)
-    → camacFault c.before.before.before.before.before.before.args.length c.before.before.before.before.before.before.args.first
+    → camac_fault c.before.before.before.before.before.before.args.length c.before.before.before.before.before.before.args.first
     c.before.before.before.before.before.before.args.second
     ≡ (if eqb c.before.before.before.before.before.before.args.length 4 then 0 else 8)
 single c =
-    single-fault _ _ _ (passes-6 c.before.before.before.before) (passes-7 c.before.before)
+    single_fault _ _ _ (passes-6 c.before.before.before.before) (passes-7 c.before.before)
     (sym c.before.mode-in.ensures ∙ c.if3.true)
 
-no-single : (c : tie.Else3) → ¬ (modeIn c.before.before.before.before.before.before.args.first ≡ 0)
+no-single : (c : tie.Else3) → ¬ (mode_in c.before.before.before.before.before.before.args.first ≡ 0)
 no-single c e = c.if3.false (c.before.mode-in.ensures ∙ e)
 
 passes-8 :
     (c : tie.Else5)
-    → badMode c.before.before.before.before.before.before.before.before.args.length
+    → bad_mode c.before.before.before.before.before.before.before.before.args.length
     c.before.before.before.before.before.before.before.before.args.first
     ≡ false
 passes-8 c = sym c.before.is-bad-mode.ensures ∙ c.if5.false
@@ -42,30 +42,30 @@ start c = c.before.before.before.before.before.before.before.before.before.befor
 -- past the sixth test n above P is all that is left to refuse
 only-n-above-p :
     (c : tie.Else6)
-    → camacFault (start c).args.length (start c).args.first (start c).args.second
-    ≡ (if (eqb (modeIn (start c).args.first) 1 && eqb (qmodeBits (start c).args.first) 3) && aboveP (commandIn (start c).args.first (start c).args.second).transfer then 9 else 0)
-unfolding camacFault
+    → camac_fault (start c).args.length (start c).args.first (start c).args.second
+    ≡ (if (eqb (mode_in (start c).args.first) 1 && eqb (qmode_bits (start c).args.first) 3) && above_p (command_in (start c).args.first (start c).args.second).transfer then 9 else 0)
+unfolding camac_fault
 only-n-above-p c =
     rw (
       passes-6 c.before.before.before.before.before.before.before.before,
       passes-7 c.before.before.before.before.before.before,
       passes-8 c.before.before,
       sym c.before.is-bad-second.ensures ∙ c.if6.false,
-      scan-clause (start c).args.first (start c).args.second,
+      scan_clause (start c).args.first (start c).args.second,
     )
 
 is-zero-bit-set-requires : tie.Need-is-zero-bit-set-requires
 is-zero-bit-set-requires c κs = search rules
 
 returns : tie.Need-returns
-unfolding camacFault
+unfolding camac_fault
 returns c = rw (← c.before.is-zero-bit-set.ensures, c.if1.true)
 
 is-bad-address-requires : tie.Need-is-bad-address-requires
 is-bad-address-requires c κs = search rules
 
 returns-2 : tie.Need-returns-2
-unfolding camacFault
+unfolding camac_fault
 returns-2 c = rw (passes-6 c.before.before, ← c.before.is-bad-address.ensures, c.if2.true)
 
 mode-in-requires : tie.Need-mode-in-requires
@@ -81,7 +81,7 @@ is-bad-mode-requires : tie.Need-is-bad-mode-requires
 is-bad-mode-requires c κs = no-single c
 
 returns-5 : tie.Need-returns-5
-unfolding camacFault
+unfolding camac_fault
 returns-5 c =
     rw (
       passes-6 c.before.before.before.before.before.before,
@@ -94,7 +94,7 @@ is-bad-second-requires : tie.Need-is-bad-second-requires
 is-bad-second-requires c κs = no-single c.before.before
 
 returns-6 : tie.Need-returns-6
-unfolding camacFault
+unfolding camac_fault
 returns-6 c =
     rw (
       passes-6 c.before.before.before.before.before.before.before.before,

@@ -1,6 +1,6 @@
--- `command_in` is `commandIn`: each part is what the callee for it ensures.
+-- `command_in` is `command_in`: each part is what the callee for it ensures.
 use borrow.Author.Rules.{rules}
-use Rattle.camac.specs.Words.{commandIn}
+use Rattle.camac.specs.Words.{command_in}
 use Rattle.camac.proofs.words.command_in.Statement.{statement}
 use Rattle.camac.proofs.words.command_in.Tie as tie
 
@@ -23,7 +23,7 @@ has-ad-requires : tie.Need-has-ad-requires
 has-ad-requires c κs = search rules
 
 returns : tie.Need-returns
-unfolding commandIn
+unfolding command_in
 returns c =
     simp (
       c.has-ad.ensures,

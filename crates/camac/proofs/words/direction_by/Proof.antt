@@ -1,4 +1,4 @@
--- `direction_by` is `directionBy`: the same two tests in the same order.
+-- `direction_by` is `direction_by`: the same two tests in the same order.
 use borrow.Author.Rules.{rules}
 use Rattle.camac.proofs.words.direction_by.Statement.{statement}
 use Rattle.camac.proofs.words.direction_by.Tie as tie

@@ -1,5 +1,5 @@
--- `direction_of` is `directionOf`, by the variant matched.
-use Rattle.camac.specs.Words.{directionOf}
+-- `direction_of` is `direction_of`, by the variant matched.
+use Rattle.camac.specs.Words.{direction_of}
 use borrow.Author.Rules.{rules}
 use Rattle.camac.proofs.words.direction_of.Statement.{statement}
 use Rattle.camac.proofs.words.direction_of.Tie as tie
@@ -26,19 +26,19 @@ enum_told : tie.Need-enum-told
 enum_told c = search rules
 
 returns : tie.Need-returns
-unfolding directionOf
+unfolding direction_of
 returns c = simp c.before.before.t.given.1 c.direction-by.ensures
 
 returns-2 : tie.Need-returns-2
-unfolding directionOf
+unfolding direction_of
 returns-2 c = simp c.before.before.t2.given.1 c.direction-by2.ensures
 
 returns-3 : tie.Need-returns-3
-unfolding directionOf
+unfolding direction_of
 returns-3 c = simp c.before.before.t3.given.1 c.enhanced-direction.ensures
 
 returns-4 : tie.Need-returns-4
-unfolding directionOf
+unfolding direction_of
 returns-4 c = simp c.enum_told.given.1
 
 pub direction-of-spec : {M : Type 1} → statement M

@@ -1,8 +1,8 @@
--- `enhanced_direction` is `enhancedDirection`: by A where F is control, else by F.
+-- `enhanced_direction` is `enhanced_direction`: by A where F is control, else by F.
 use mathlib.Core.Path.{sym, ◌∙◌}
 use native.Mathlib.Omega.{arith}
 use borrow.Author.Tests.{lt-ltb, le-ltb}
-use Rattle.camac.proofs.BitLaws.{by-function}
+use Rattle.camac.proofs.BitLaws.{by_function}
 use borrow.Author.Rules.{rules}
 use Rattle.camac.proofs.words.enhanced_direction.Statement.{statement}
 use Rattle.camac.proofs.words.enhanced_direction.Tie as tie
@@ -20,7 +20,7 @@ direction-by-requires : tie.Need-direction-by-requires
 direction-by-requires c κs = search rules
 
 returns-3 : tie.Need-returns-3
-returns-3 c = c.direction-by.ensures ∙ sym (by-function c.before.before.before.args.a (sym c.before.before.is_control.ensures ∙ c.before.if1.false))
+returns-3 c = c.direction-by.ensures ∙ sym (by_function c.before.before.before.args.a (sym c.before.before.is_control.ensures ∙ c.before.if1.false))
 
 pub enhanced-direction-spec : {M : Type 1} → statement M
 enhanced-direction-spec =

@@ -1,4 +1,4 @@
--- `is_above_p` is `aboveP`: P and n are what the callees ensure.
+-- `is_above_p` is `above_p`: P and n are what the callees ensure.
 use borrow.Author.Rules.{rules}
 use Rattle.camac.proofs.words.is_above_p.Statement.{statement}
 use Rattle.camac.proofs.words.is_above_p.Tie as tie

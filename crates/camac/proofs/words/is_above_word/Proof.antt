@@ -1,4 +1,4 @@
--- `is_above_word` is `aboveWord`, by the word size.
+-- `is_above_word` is `above_word`, by the word size.
 use Rattle.camac.proofs.words.is_above_word.Statement.{statement}
 use Rattle.camac.proofs.words.is_above_word.Tie as tie
 

@@ -1,4 +1,4 @@
--- `is_bad_address` is `badAddress`: C and N are tested bound by bound, and the Q-mode counts at station 30 alone.
+-- `is_bad_address` is `bad_address`: C and N are tested bound by bound, and the Q-mode counts at station 30 alone.
 use borrow.Author.Rules.{rules}
 use mathlib.Core.Bool.{and-true, and-false}
 use native.Mathlib.Omega.{arith}

@@ -1,4 +1,4 @@
--- `is_bad_count` is `badCount`: the same tests in the same order.
+-- `is_bad_count` is `bad_count`: the same tests in the same order.
 use borrow.Author.Rules.{rules}
 use borrow.Author.Tests.{ne_eqb, lt-ltb, le-ltb}
 use Rattle.camac.proofs.words.is_bad_count.Statement.{statement}

@@ -1,8 +1,8 @@
--- `is_bad_enhanced` is `badEnhanced`: in sequencer mode the four instructions, outside it control and repeat writes.
+-- `is_bad_enhanced` is `bad_enhanced`: in sequencer mode the four instructions, outside it control and repeat writes.
 use native.Mathlib.Omega.{arith}
 use borrow.Author.Tests.{eq-eqb, ne_eqb}
 use borrow.Author.Rules.{rules}
-use Rattle.camac.specs.Words.{qmodeBits}
+use Rattle.camac.specs.Words.{qmode_bits}
 use Rattle.camac.proofs.words.is_bad_enhanced.Statement.{statement}
 use Rattle.camac.proofs.words.is_bad_enhanced.Tie as tie
 
@@ -36,7 +36,7 @@ returns-3 c =
       ← c.is-write.ensures,
       ← c.before.before.before.is_control.ensures,
       c.before.before.if2.false,
-      eq-eqb (qmodeBits c.before.before.before.before.before.before.before.args.first) 2 (omega (arith, c.before.if3.true)),
+      eq-eqb (qmode_bits c.before.before.before.before.before.before.before.args.first) 2 (omega (arith, c.before.if3.true)),
     )
 
 returns-4 : tie.Need-returns-4
@@ -47,7 +47,7 @@ returns-4 c =
       ← c.before.before.before.before.before.address-in.ensures,
       ← c.before.before.is_control.ensures,
       c.before.if2.false,
-      ne_eqb (qmodeBits c.before.before.before.before.before.before.args.first) 2 (λ e. omega (arith, c.if3.false)),
+      ne_eqb (qmode_bits c.before.before.before.before.before.before.args.first) 2 (λ e. omega (arith, c.if3.false)),
     )
 
 pub is-bad-enhanced-spec : {M : Type 1} → statement M

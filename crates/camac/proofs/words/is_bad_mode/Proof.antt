@@ -1,4 +1,4 @@
--- `is_bad_mode` is `badMode`: what is left of its tests in each mode but 0 is what the code tests there.
+-- `is_bad_mode` is `bad_mode`: what is left of its tests in each mode but 0 is what the code tests there.
 use Prim.Native.Nat.{ℕ}
 use mathlib.Core.Path.{◌≡◌, sym, ◌∙◌}
 use mathlib.Core.Bool.{Bool, ◌&&◌, ◌||◌, not, or-false}
@@ -6,7 +6,7 @@ use native.Mathlib.Omega.{arith}
 use borrow.Author.Tests.{ne_eqb}
 use lib.Dec.{eqb}
 use Rattle.base.specs.Checks.{if◌then◌else◌}
-use Rattle.camac.specs.Words.{modeIn}
+use Rattle.camac.specs.Words.{mode_in}
 use borrow.Author.Rules.{rules}
 use Rattle.camac.proofs.words.is_bad_mode.Statement.{statement}
 use Rattle.camac.proofs.words.is_bad_mode.Tie as tie
@@ -18,7 +18,7 @@ in_two : (mode : ℕ) (control enhanced inline : Bool) → mode ≡ 2
     → not (eqb 8 (if eqb mode 0 then 4 else 8)) || (eqb mode 1 && control || (eqb mode 2 && enhanced || (eqb mode 3 && inline))) ≡ enhanced
 in_two mode control enhanced inline m = rw m (or-false enhanced)
 
-mode-two : (c : tie.Else3) → modeIn c.before.before.before.before.before.args.first ≡ 2
+mode-two : (c : tie.Else3) → mode_in c.before.before.before.before.before.args.first ≡ 2
 mode-two c =
     let e = c.before.before.before.mode-in.ensures in
     let p = c.before.before.before.before.before.requires in

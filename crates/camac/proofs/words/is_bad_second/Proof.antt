@@ -1,14 +1,14 @@
--- `is_bad_second` is `badSecond`: outside singles an inline write asks for one of its two tests, a block for the other.
+-- `is_bad_second` is `bad_second`: outside singles an inline write asks for one of its two tests, a block for the other.
 use mathlib.Core.Path.{◌≡◌, sym, ◌∙◌}
 use mathlib.Core.Bool.{or-false}
 use borrow.Author.Tests.{ne_eqb}
-use Rattle.camac.specs.Words.{modeIn}
-use Rattle.camac.proofs.BitLaws.{block-mode}
+use Rattle.camac.specs.Words.{mode_in}
+use Rattle.camac.proofs.BitLaws.{block_mode}
 use borrow.Author.Rules.{rules}
 use Rattle.camac.proofs.words.is_bad_second.Statement.{statement}
 use Rattle.camac.proofs.words.is_bad_second.Tie as tie
 
-no-inline : (c : tie.Else1) → ¬ (modeIn c.before.before.before.args.first ≡ 3)
+no-inline : (c : tie.Else1) → ¬ (mode_in c.before.before.before.args.first ≡ 3)
 no-inline c e = c.if1.false (c.before.mode-in.ensures ∙ e)
 
 is-wide-requires : tie.Need-is-wide-requires
@@ -30,7 +30,7 @@ is-bad-count-requires c κs = search rules
 returns-2 : tie.Need-returns-2
 returns-2 c =
     rw (
-      block-mode _ c.before.before.before.before.requires (no-inline c.before),
+      block_mode _ c.before.before.before.before.requires (no-inline c.before),
       ne_eqb _ 3 (no-inline c.before),
       or-false,
       ← c.before.before.before.is_IsWide.ensures,

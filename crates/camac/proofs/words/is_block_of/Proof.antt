@@ -1,5 +1,5 @@
--- `is_block_of` is `isBlock`, by the variant matched.
-use Rattle.camac.specs.Words.{isBlock}
+-- `is_block_of` is `is_block`, by the variant matched.
+use Rattle.camac.specs.Words.{is_block}
 use borrow.Author.Rules.{rules}
 use Rattle.camac.proofs.words.is_block_of.Statement.{statement}
 use Rattle.camac.proofs.words.is_block_of.Tie as tie
@@ -17,19 +17,19 @@ enum-told-4 : tie.Need-enum-told-4
 enum-told-4 c = search rules
 
 returns : tie.Need-returns
-unfolding isBlock
+unfolding is_block
 returns c = simp c.enum_told.given.1
 
 returns-2 : tie.Need-returns-2
-unfolding isBlock
+unfolding is_block
 returns-2 c = simp c.enum-told2.given.1
 
 returns-3 : tie.Need-returns-3
-unfolding isBlock
+unfolding is_block
 returns-3 c = simp c.enum-told3.given.1
 
 returns-4 : tie.Need-returns-4
-unfolding isBlock
+unfolding is_block
 returns-4 c = simp c.enum-told4.given.1
 
 pub is-block-of-spec : {M : Type 1} → statement M

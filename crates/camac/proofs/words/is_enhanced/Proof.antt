@@ -1,5 +1,5 @@
--- `is_enhanced` is `isEnhanced`, by the variant matched.
-use Rattle.camac.specs.Words.{isEnhanced}
+-- `is_enhanced` is `is_enhanced`, by the variant matched.
+use Rattle.camac.specs.Words.{is_enhanced}
 use borrow.Author.Rules.{rules}
 use Rattle.camac.proofs.words.is_enhanced.Statement.{statement}
 use Rattle.camac.proofs.words.is_enhanced.Tie as tie
@@ -17,19 +17,19 @@ enum-told-4 : tie.Need-enum-told-4
 enum-told-4 c = search rules
 
 returns : tie.Need-returns
-unfolding isEnhanced
+unfolding is_enhanced
 returns c = simp c.enum_told.given.1
 
 returns-2 : tie.Need-returns-2
-unfolding isEnhanced
+unfolding is_enhanced
 returns-2 c = simp c.enum-told2.given.1
 
 returns-3 : tie.Need-returns-3
-unfolding isEnhanced
+unfolding is_enhanced
 returns-3 c = simp c.enum-told3.given.1
 
 returns-4 : tie.Need-returns-4
-unfolding isEnhanced
+unfolding is_enhanced
 returns-4 c = simp c.enum-told4.given.1
 
 pub is-enhanced-spec : {M : Type 1} → statement M

@@ -1,4 +1,4 @@
--- `is_sequencer_at` is `isSequencerAt`: N, F and A in the same order.
+-- `is_sequencer_at` is `is_sequencer_at`: N, F and A in the same order.
 use native.Mathlib.Omega.{arith}
 use borrow.Author.Tests.{eq-eqb, ne_eqb}
 use Rattle.camac.proofs.words.is_sequencer_at.Statement.{statement}

@@ -1,4 +1,4 @@
--- `is_write` is `isWrite`: control first, then the 16-bit.
+-- `is_write` is `is_write`: control first, then the 16-bit.
 use borrow.Author.Rules.{rules}
 use Rattle.camac.proofs.words.is_write.Statement.{statement}
 use Rattle.camac.proofs.words.is_write.Tie as tie

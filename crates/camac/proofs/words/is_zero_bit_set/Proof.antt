@@ -1,4 +1,4 @@
--- `is_zero_bit_set` is `zeroBitSet`: the six bits are tested in the same order.
+-- `is_zero_bit_set` is `zero_bit_set`: the six bits are tested in the same order.
 use borrow.Author.Tests.{ne_eqb}
 use Rattle.camac.proofs.words.is_zero_bit_set.Statement.{statement}
 use Rattle.camac.proofs.words.is_zero_bit_set.Tie as tie

@@ -1,5 +1,5 @@
--- `numbered_qmode` is `qmodeNumbered`, number by number; a number that is none of 0, 1 and 2 is 3 or more.
-use Rattle.camac.proofs.Laws.{three-or-more}
+-- `numbered_qmode` is `qmode_numbered`, number by number; a number that is none of 0, 1 and 2 is 3 or more.
+use Rattle.camac.proofs.Laws.{three_or_more}
 use Rattle.camac.proofs.words.numbered_qmode.Statement.{statement}
 use Rattle.camac.proofs.words.numbered_qmode.Tie as tie
 
@@ -13,7 +13,7 @@ returns-3 : tie.Need-returns-3
 returns-3 c = simp c.match.keys3
 
 returns-4 : tie.Need-returns-4
-returns-4 c = rw (three-or-more _ c.match.rest.0.0.1 c.match.rest.0.1 c.match.rest.1)
+returns-4 c = rw (three_or_more _ c.match.rest.0.0.1 c.match.rest.0.1 c.match.rest.1)
 
 pub numbered-qmode-spec : {M : Type 1} → statement M
 numbered-qmode-spec = tie.close (tie.spec returns returns-2 returns-3 returns-4)

@@ -1,17 +1,17 @@
--- `qmode_in` is `qmodeIn`: numbers 0, 1 and 2 are no list sequencer's, and 3 is one by the transfer mode.
+-- `qmode_in` is `qmode_in`: numbers 0, 1 and 2 are no list sequencer's, and 3 is one by the transfer mode.
 use mathlib.Core.Path.{◌≡◌}
 use mathlib.Core.Bool.{and-true, and-false}
 use native.Mathlib.Omega.{arith}
-use Rattle.camac.specs.Words.{qmodeBits}
+use Rattle.camac.specs.Words.{qmode_bits}
 use Rattle.camac.proofs.Laws.{three}
 use borrow.Author.Rules.{rules}
 use Rattle.camac.proofs.words.qmode_in.Statement.{statement}
 use Rattle.camac.proofs.words.qmode_in.Tie as tie
 
-third : (c : tie.After-third-qmode) → qmodeBits c.before.before.args.first ≡ 3
+third : (c : tie.After-third-qmode) → qmode_bits c.before.before.args.first ≡ 3
 third c =
     let rest = c.before.match.rest in
-    three (qmodeBits c.before.before.args.first) (omega arith) rest.0.0.1 rest.0.1 rest.1
+    three (qmode_bits c.before.before.args.first) (omega arith) rest.0.0.1 rest.0.1 rest.1
 
 third-qmode-requires : tie.Need-third-qmode-requires
 third-qmode-requires c κs = search rules

@@ -1,5 +1,5 @@
--- `single_in` is `commandIn` of a single, which looks at no second longword.
-use Rattle.camac.proofs.BitLaws.{single-second}
+-- `single_in` is `command_in` of a single, which looks at no second longword.
+use Rattle.camac.proofs.BitLaws.{single_second}
 use borrow.Author.Rules.{rules}
 use Rattle.camac.proofs.words.single_in.Statement.{statement}
 use Rattle.camac.proofs.words.single_in.Tie as tie
@@ -24,7 +24,7 @@ returns c = λ second.
       c.before.before.numbered-qmode.ensures,
       c.before.before.before.address-in.ensures,
     )
-    (single-second _ second c.before.before.before.before.requires)
+    (single_second _ second c.before.before.before.before.requires)
 
 pub single-in-spec : {M : Type 1} → statement M
 single-in-spec =

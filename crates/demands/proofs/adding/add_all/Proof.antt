@@ -3,7 +3,7 @@ use Prim.Native.Nat.{◌-◌}
 use mathlib.Core.Path.{◌≡◌, refl, ◌∙◌}
 use native.Mathlib.Omega.{arith}
 use lib.ListN.{length}
-use Rattle.demands.proofs.RowLaws.{Adding, adding-none, adding-next, adding-end}
+use Rattle.demands.proofs.RowLaws.{Adding, adding_none, adding_next, adding_end}
 use Rattle.demands.proofs.adding.add_all.Statement.{statement}
 use Rattle.demands.proofs.adding.add_all.Tie as tie
 
@@ -14,7 +14,7 @@ abbrev decreases-loop : tie.decreases-loop
 decreases-loop queue₀ row at₀ queue at = length row - at
 
 loop-holds : tie.Need-loop-init invariant-loop decreases-loop
-loop-holds c = (adding-none _ _ c.before.before.requires.0, refl)
+loop-holds c = (adding_none _ _ c.before.before.requires.0, refl)
 
 shared-slice-read-t10 : tie.Need-shared-slice-read-t10 invariant-loop decreases-loop
 shared-slice-read-t10 c = omega arith
@@ -39,13 +39,13 @@ loop-again c =
     let at-add = c.before.before in
     let at-loop = at-add.before.before.before.before.before in
     let k = at-loop.loop.invariant in
-    (adding-next k.0 (omega (arith, k.0.whole, at-loop.before.before.before.requires.1)) at-add.add-one.ensures, at-add.add-one.auto.0 ∙ k.1)
+    (adding_next k.0 (omega (arith, k.0.whole, at-loop.before.before.before.requires.1)) at-add.add-one.ensures, at-add.add-one.auto.0 ∙ k.1)
 
 same_length : tie.Need-same-length invariant-loop decreases-loop
 same_length c = c.before.loop.invariant.1
 
 returns : tie.Need-returns invariant-loop decreases-loop
-returns c = adding-end c.before.loop.invariant.0 (omega arith)
+returns c = adding_end c.before.loop.invariant.0 (omega arith)
 
 pub add-all-spec : {M : Type 1} → statement M
 add-all-spec =

@@ -1,9 +1,9 @@
--- `add_one` is `addedTo`: where 2,048 wait, the mark alone; else the cell behind the last, and one more.
+-- `add_one` is `added_to`: where 2,048 wait, the mark alone; else the cell behind the last, and one more.
 use mathlib.Core.Path.{refl, ◌∙◌}
 use native.Mathlib.Omega.{arith}
 use lib.ListN.{length-set}
 use Rattle.demands.proofs.LayoutLaws.{limits}
-use Rattle.demands.proofs.CallLaws.{added_full, added-room}
+use Rattle.demands.proofs.CallLaws.{added_full, added_room}
 use borrow.Author.Rules.{rules}
 use Rattle.demands.proofs.adding.add_one.Statement.{statement}
 use Rattle.demands.proofs.adding.add_one.Tie as tie
@@ -44,7 +44,7 @@ add-set-waiting c = search rules
 set-waiting-requires : tie.Need-set-waiting-requires
 set-waiting-requires c κs =
     let l = limits _ c.before.before.before.before.before.before.before.requires in
-    (simp length-set l.long, omega (arith, c.before.before.before.before.waiting-in.ensures.0, l.waiting-most, c.before.before.before.if1.false))
+    (simp length-set l.long, omega (arith, c.before.before.before.before.waiting-in.ensures.0, l.waiting_most, c.before.before.before.if1.false))
 
 same-length-2 : tie.Need-same-length-2
 same-length-2 c = c.before.before.set-waiting.auto.0 ∙ simp length-set refl
@@ -55,7 +55,7 @@ returns-2 c =
     let at_first = at-put.before.before in
     let at-waiting = at_first.before.before.before in
     at-put.set-waiting.ensures
-    ∙ added-room _ at-waiting.waiting-in.ensures.0 at-waiting.before.before.before.args.demand at_first.first-in.ensures.0 at_first.before.before.if1.false
+    ∙ added_room _ at-waiting.waiting-in.ensures.0 at-waiting.before.before.before.args.demand at_first.first-in.ensures.0 at_first.before.before.if1.false
 
 pub add-one-spec : {M : Type 1} → statement M
 add-one-spec =

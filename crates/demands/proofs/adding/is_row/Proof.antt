@@ -2,7 +2,7 @@
 use Prim.Native.Nat.{◌-◌}
 use native.Mathlib.Omega.{arith}
 use lib.ListN.{length}
-use Rattle.demands.proofs.RowLaws.{Judging, judging-none, judging-next, judging-end, odd-row}
+use Rattle.demands.proofs.RowLaws.{Judging, judging_none, judging_next, judging_end, odd_row}
 use Rattle.demands.proofs.adding.is_row.Statement.{statement}
 use Rattle.demands.proofs.adding.is_row.Tie as tie
 
@@ -13,10 +13,10 @@ abbrev decreases-loop : tie.decreases-loop
 decreases-loop row at₀ are₀ at are = length row - at
 
 returns : tie.Need-returns invariant-loop decreases-loop
-returns c = odd-row _ (λ e. omega (arith, c.if1.true))
+returns c = odd_row _ (λ e. omega (arith, c.if1.true))
 
 loop-holds : tie.Need-loop-init invariant-loop decreases-loop
-loop-holds c = judging-none _
+loop-holds c = judging_none _
 
 shared-slice-read-is-crate : tie.Need-shared-slice-read-is-crate invariant-loop decreases-loop
 shared-slice-read-is-crate c = omega arith
@@ -33,10 +33,10 @@ loop-less c = omega arith
 loop-again : tie.Need-loop-preserved invariant-loop decreases-loop
 loop-again c =
     let k = c.before.before.before.loop.invariant in
-    judging-next k (omega (arith, k.whole)) c.is-crate.ensures
+    judging_next k (omega (arith, k.whole)) c.is-crate.ensures
 
 returns-2 : tie.Need-returns-2 invariant-loop decreases-loop
-returns-2 c = judging-end c.before.loop.invariant (omega arith) c.before.before.if1.false
+returns-2 c = judging_end c.before.loop.invariant (omega arith) c.before.before.if1.false
 
 pub is-row-spec : {M : Type 1} → statement M
 is-row-spec =

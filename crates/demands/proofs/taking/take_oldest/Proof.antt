@@ -1,12 +1,12 @@
--- `take_oldest` is `takenFrom`: nothing where none waits; else the demand of the oldest's cell, and the next cell is the oldest's.
+-- `take_oldest` is `taken_from`: nothing where none waits; else the demand of the oldest's cell, and the next cell is the oldest's.
 use Prim.Native.Nat.{ℕ}
 use mathlib.Core.Path.{◌≡◌, sym, ap, ◌∙◌}
 use mathlib.Core.List.{List}
 use native.Mathlib.Omega.{arith}
 use Rattle.demands.specs.declared.Next.{Next}
-use Rattle.demands.specs.Demands.{Outcome, leaving, withFirst}
+use Rattle.demands.specs.Demands.{Outcome, leaving, with_first}
 use Rattle.demands.proofs.LayoutLaws.{limits}
-use Rattle.demands.proofs.CallLaws.{taken_none, taken-one}
+use Rattle.demands.proofs.CallLaws.{taken_none, taken_one}
 use borrow.Author.Rules.{rules}
 use Rattle.demands.proofs.taking.take_oldest.Statement.{statement}
 use Rattle.demands.proofs.taking.take_oldest.Tie as tie
@@ -52,7 +52,7 @@ sub-set-waiting c = search rules
 set-waiting-requires : tie.Need-set-waiting-requires
 set-waiting-requires c κs =
     let l = limits _ c.before.before.before.before.before.before.before.before.before.requires in
-    (l.long, omega (arith, l.waiting-most, c.before.before.before.before.before.before.waiting-in.ensures.0))
+    (l.long, omega (arith, l.waiting_most, c.before.before.before.before.before.before.waiting-in.ensures.0))
 
 add-set-first : tie.Need-overflow-add-set-first
 add-set-first c = search rules
@@ -70,8 +70,8 @@ returns-2 c =
     let at_first = at-fewer.before.before.before.before in
     let at-waiting = at_first.before.before.before in
     let start = at-waiting.before.before.before in
-    parts (taken-one _ at-waiting.waiting-in.ensures.0 (limits _ start.requires) at_first.first-in.ensures.0 at_first.before.before.if1.false
-    ∙ ap (leaving _) (sym (at-put.set_first.ensures ∙ ap (withFirst _) at-fewer.set-waiting.ensures)))
+    parts (taken_one _ at-waiting.waiting-in.ensures.0 (limits _ start.requires) at_first.first-in.ensures.0 at_first.before.before.if1.false
+    ∙ ap (leaving _) (sym (at-put.set_first.ensures ∙ ap (with_first _) at-fewer.set-waiting.ensures)))
 
 pub take-oldest-spec : {M : Type 1} → statement M
 take-oldest-spec =

@@ -5,7 +5,7 @@ use mathlib.Core.Path.{refl, sym, ◌∙◌, subst}
 use native.Mathlib.Omega.{arith}
 use Rattle.listfile.specs.model.Table.{FieldPassed}
 use Rattle.walk.specs.model.Sums.{SumsTo}
-use Rattle.walk.proofs.SumLaws.{sums-more, turn-sums-to, words-few}
+use Rattle.walk.proofs.SumLaws.{sums_more, turn_sums_to, words_few}
 use Rattle.explain.proofs.visits.print_walk.Statement.{statement}
 use Rattle.explain.proofs.visits.print_walk.Tie as tie
 
@@ -41,13 +41,13 @@ shared-slice-read-place c = search rules
 
 turn-at-requires : tie.Need-turn-at-requires invariant-loop decreases-loop
 turn-at-requires c κs =
-    let at-start = c.before.before.before.before.before.before.before.before.before.before in
-    let right = at-start.requires.1.1.1 in
+    let at_start = c.before.before.before.before.before.before.before.before.before.before in
+    let right = at_start.requires.1.1.1 in
     let below = c.before.before.if1.false in (
-      at-start.requires.1.1.0,
+      at_start.requires.1.1.0,
       (
         subst (FieldPassed _) (sym (right.entry _ below)) (right.passed _ below),
-        (omega arith, sums-more (omega arith) c.before.before.before.before.loop.invariant.1),
+        (omega arith, sums_more (omega arith) c.before.before.before.before.loop.invariant.1),
       ),
     )
 
@@ -88,9 +88,9 @@ loop-again : tie.Need-loop-preserved invariant-loop decreases-loop
 loop-again c =
     let at_turn = c.before.before.before.before in
     let at-loop = at_turn.before.before.before.before.before.before.before in
-    let at-start = at-loop.before.before.before.before.before.before in
+    let at_start = at-loop.before.before.before.before.before.before in
     let turn = sym at_turn.before.before.turn_at.ensures ∙ at_turn.turn.given.1 in
-    (omega arith, sums-more (omega arith) (turn-sums-to _ _ _ _ _ _ _ at-start.requires.1.1.0 (words-few _ _ _ refl) at-loop.loop.invariant.1 turn))
+    (omega arith, sums_more (omega arith) (turn_sums_to _ _ _ _ _ _ _ at_start.requires.1.1.0 (words_few _ _ _ refl) at-loop.loop.invariant.1 turn))
 
 print-lost-requires : tie.Need-print-lost-requires invariant-loop decreases-loop
 print-lost-requires c κs = search rules

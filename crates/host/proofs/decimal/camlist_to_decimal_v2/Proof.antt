@@ -1,6 +1,6 @@
 -- `host::decimal::camlist_to_decimal_v2` meets its contract: its numbers are those of the refusal, and the row is that of the call.
 use mathlib.Core.Path.{ap, ◌∙◌}
-use Rattle.host.specs.Numbers.{refusalNumbers}
+use Rattle.host.specs.Numbers.{refusal_numbers}
 use borrow.Author.Rules.{rules}
 use Rattle.host.proofs.decimal.camlist_to_decimal_v2.Statement.{statement}
 use Rattle.host.proofs.decimal.camlist_to_decimal_v2.Tie as tie
@@ -17,7 +17,7 @@ same_length c = search rules
 returns : tie.Need-returns
 returns c =
     let converted = c.before.before.before.to-decimal.ensures in
-    (c.refusal-numbers.ensures ∙ ap refusalNumbers converted.0, converted.1)
+    (c.refusal-numbers.ensures ∙ ap refusal_numbers converted.0, converted.1)
 
 pub camlist-to-decimal-v2-spec : {M : Type 1} → statement M
 camlist-to-decimal-v2-spec =

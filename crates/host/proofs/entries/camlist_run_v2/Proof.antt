@@ -1,6 +1,6 @@
 -- `host::entries::camlist_run_v2` meets its contract: its numbers are those of what the whole run yields, and both buffers are the whole run's.
 use mathlib.Core.Path.{ap, ◌∙◌}
-use Rattle.host.specs.Numbers.{runNumbers}
+use Rattle.host.specs.Numbers.{run_numbers}
 use borrow.Author.Rules.{rules}
 use Rattle.host.proofs.entries.camlist_run_v2.Statement.{statement}
 use Rattle.host.proofs.entries.camlist_run_v2.Tie as tie
@@ -17,7 +17,7 @@ same_length c = search rules
 returns : tie.Need-returns
 returns c =
     let ran = c.before.before.before.run_row.ensures in
-    (c.run-numbers.ensures ∙ ap runNumbers ran.answer, (ran.incoming-bytes, ran.outgoing-bytes))
+    (c.run-numbers.ensures ∙ ap run_numbers ran.answer, (ran.incoming_bytes, ran.outgoing_bytes))
 
 pub camlist-run-v2-spec : {M : Type 1} → statement M
 camlist-run-v2-spec = tie.close (tie.spec run-row-requires run-numbers-requires same_length returns)

@@ -1,8 +1,8 @@
 -- `camlist_start_v2` meets its contract: its numbers are those of what start yields, and both buffers are its.
 use mathlib.Core.Path.{ap, ◌∙◌}
-use Rattle.calls.specs.Calls.{recordNumbers}
+use Rattle.calls.specs.Calls.{record_numbers}
 use Rattle.calls.specs.declared.Yield.{Yield}
-use Rattle.host.specs.Numbers.{callNumbers}
+use Rattle.host.specs.Numbers.{call_numbers}
 use borrow.Author.Rules.{rules}
 use Rattle.host.proofs.entries.camlist_start_v2.Statement.{statement}
 use Rattle.host.proofs.entries.camlist_start_v2.Tie as tie
@@ -22,10 +22,10 @@ same_length c = search rules
 returns : tie.Need-returns
 returns c =
     let yields = c.before.before.before.before.start.ensures in (
-      c.call-numbers.ensures ∙ ap (λ (y : Yield). callNumbers y.refusal y.wanted) yields.answer,
+      c.call-numbers.ensures ∙ ap (λ (y : Yield). call_numbers y.refusal y.wanted) yields.answer,
       (
-        c.before.record-numbers.ensures ∙ ap (λ (y : Yield). recordNumbers y.run) yields.answer,
-        (yields.incoming-bytes, yields.outgoing-bytes),
+        c.before.record-numbers.ensures ∙ ap (λ (y : Yield). record_numbers y.run) yields.answer,
+        (yields.incoming_bytes, yields.outgoing_bytes),
       ),
     )
 

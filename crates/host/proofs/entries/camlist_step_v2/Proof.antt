@@ -1,7 +1,7 @@
 -- `camlist_step_v2` meets its contract: the step of the record that its numbers give, or of one that fits no list.
 use mathlib.Core.Path.{ap}
 use Rattle.host.specs.Numbers.{Leaving}
-use Rattle.host.proofs.TooWide.{step-leaves}
+use Rattle.host.proofs.TooWide.{step_leaves}
 use borrow.Author.Rules.{rules}
 use Rattle.host.proofs.entries.camlist_step_v2.Statement.{statement}
 use Rattle.host.proofs.entries.camlist_step_v2.Tie as tie
@@ -25,7 +25,7 @@ returns : tie.Need-returns
 returns c =
     let at-step = c.before.before.before.before in
     let start = at-step.before.before.before.before.before.before.before.before in
-    let all = step-leaves start.args.list.now start.args.«record».now start.args.incoming.now start.args.outgoing.now _
+    let all = step_leaves start.args.list.now start.args.«record».now start.args.incoming.now start.args.outgoing.now _
     at-step.before.before.record_of.ensures _ _ _ _ start.args.reply.now _ at-step.step.ensures c.call-numbers.ensures
     c.before.numbers_after.ensures in (
       ap (λ (l : Leaving). l.answer) all,

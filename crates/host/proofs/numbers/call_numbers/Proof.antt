@@ -1,4 +1,4 @@
--- `call_numbers` is `callNumbers`: the parts in order, and whether the operation is enhanced as a number.
+-- `call_numbers` is `call_numbers`: the parts in order, and whether the operation is enhanced as a number.
 use borrow.Author.Rules.{rules}
 use Rattle.host.proofs.numbers.call_numbers.Statement.{statement}
 use Rattle.host.proofs.numbers.call_numbers.Tie as tie

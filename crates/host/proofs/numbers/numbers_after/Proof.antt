@@ -1,4 +1,4 @@
--- `numbers_after` is `numbersAfter`: the record's numbers where the call was not refused, else those given.
+-- `numbers_after` is `numbers_after`: the record's numbers where the call was not refused, else those given.
 use mathlib.Core.Path.{◌≡◌}
 use mathlib.Core.Bool.{true, false, ◌&&◌}
 use lib.Dec.{eqb}

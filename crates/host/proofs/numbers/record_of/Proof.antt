@@ -1,4 +1,4 @@
--- `record_of` is `recordOr`: part by part the record of numbers that are narrow, else the one that fits no list.
+-- `record_of` is `record_or`: part by part the record of numbers that are narrow, else the one that fits no list.
 use mathlib.Core.Path.{sym, ◌∙◌}
 use native.Mathlib.Omega.{arith}
 use borrow.Author.Tests.{not-true, not-false}

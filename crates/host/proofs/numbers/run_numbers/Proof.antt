@@ -1,4 +1,4 @@
--- `run_numbers` is `runNumbers`: number, place, replies taken, and the numbers of the record.
+-- `run_numbers` is `run_numbers`: number, place, replies taken, and the numbers of the record.
 use borrow.Author.Rules.{rules}
 use Rattle.host.proofs.numbers.run_numbers.Statement.{statement}
 use Rattle.host.proofs.numbers.run_numbers.Tie as tie

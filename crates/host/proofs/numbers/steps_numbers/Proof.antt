@@ -1,4 +1,4 @@
--- `steps_numbers` is `stepsNumbers`: the parts in order, and whether the operation is enhanced as a number.
+-- `steps_numbers` is `steps_numbers`: the parts in order, and whether the operation is enhanced as a number.
 use borrow.Author.Rules.{rules}
 use Rattle.host.proofs.numbers.steps_numbers.Statement.{statement}
 use Rattle.host.proofs.numbers.steps_numbers.Tie as tie

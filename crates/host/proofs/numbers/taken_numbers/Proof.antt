@@ -1,6 +1,6 @@
--- `taken_numbers` is `takenNumbers`: the numbers of the answer, and those of what was taken.
+-- `taken_numbers` is `taken_numbers`: the numbers of the answer, and those of what was taken.
 use mathlib.Core.Path.{sym, ap}
-use Rattle.host.specs.Numbers.{takenNumbers}
+use Rattle.host.specs.Numbers.{taken_numbers}
 use borrow.Author.Rules.{rules}
 use Rattle.host.proofs.numbers.taken_numbers.Statement.{statement}
 use Rattle.host.proofs.numbers.taken_numbers.Tie as tie
@@ -45,13 +45,13 @@ cast-t32 : tie.Need-overflow-cast-t32
 cast-t32 c = search rules
 
 returns : tie.Need-returns
-returns c = rw c.before.before.queued-numbers.ensures (ap (takenNumbers c.before.before.before.args.t.queued) (sym c.enum_told.given.1))
+returns c = rw c.before.before.queued-numbers.ensures (ap (taken_numbers c.before.before.before.args.t.queued) (sym c.enum_told.given.1))
 
 returns-2 : tie.Need-returns-2
 returns-2 c =
     let at_next = c.before.before.before in
     let at-queued = at_next.before.before in
-    rw at-queued.queued-numbers.ensures (ap (takenNumbers at-queued.before.args.t.queued) (sym at_next.next.given.1))
+    rw at-queued.queued-numbers.ensures (ap (taken_numbers at-queued.before.args.t.queued) (sym at_next.next.given.1))
 
 pub taken-numbers-spec : {M : Type 1} → statement M
 taken-numbers-spec =

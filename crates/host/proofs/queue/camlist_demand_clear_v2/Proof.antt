@@ -1,6 +1,6 @@
 -- `host::queue::camlist_demand_clear_v2` meets its contract: its numbers are those of the answer, and the queue is that of the call.
 use mathlib.Core.Path.{ap, ◌∙◌}
-use Rattle.host.specs.Numbers.{queuedNumbers}
+use Rattle.host.specs.Numbers.{queued_numbers}
 use borrow.Author.Rules.{rules}
 use Rattle.host.proofs.queue.camlist_demand_clear_v2.Statement.{statement}
 use Rattle.host.proofs.queue.camlist_demand_clear_v2.Tie as tie
@@ -17,7 +17,7 @@ same_length c = search rules
 returns : tie.Need-returns
 returns c =
     let called = c.before.before.before.clear.ensures in
-    (c.queued-numbers.ensures ∙ ap queuedNumbers called.0, called.1)
+    (c.queued-numbers.ensures ∙ ap queued_numbers called.0, called.1)
 
 pub camlist-demand-clear-v2-spec : {M : Type 1} → statement M
 camlist-demand-clear-v2-spec =

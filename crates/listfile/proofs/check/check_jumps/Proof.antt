@@ -4,15 +4,15 @@ use Prim.Native.Nat.{◌-◌, ◌≤◌}
 use mathlib.Core.Path.{◌≡◌, refl, sym, ◌∙◌}
 use native.Mathlib.Omega.{arith}
 use lib.ListN.{drop}
-use Rattle.listfile.specs.Fields.{firstBadJump}
-use Rattle.listfile.specs.model.Table.{firstFields}
-use Rattle.listfile.proofs.PassLaws.{jumps-bad, jumps-more, jumps-right}
+use Rattle.listfile.specs.Fields.{first_bad_jump}
+use Rattle.listfile.specs.model.Table.{first_fields}
+use Rattle.listfile.proofs.PassLaws.{jumps_bad, jumps_more, jumps_right}
 use Rattle.listfile.proofs.check.check_jumps.Statement.{statement}
 use Rattle.listfile.proofs.check.check_jumps.Tie as tie
 
 abbrev invariant-loop : tie.invariant-loop
 invariant-loop list table count k₀ k =
-    (k ≤ count) × (firstBadJump count (firstFields list count) ≡ firstBadJump count (drop k (firstFields list count)))
+    (k ≤ count) × (first_bad_jump count (first_fields list count) ≡ first_bad_jump count (drop k (first_fields list count)))
 
 abbrev decreases-loop : tie.decreases-loop
 decreases-loop list table count k₀ k = count - k
@@ -43,8 +43,8 @@ cast-t12 c =
 returns : tie.Need-returns invariant-loop decreases-loop
 returns c =
     let at-loop-test = c.before.before.before.before in
-    let at-start = at-loop-test.before.before.before.before in
-    at-loop-test.before.loop.invariant.1 ∙ jumps-bad _ _ _ _ _ _ at-loop-test.loop-test.true at-start.requires.1 refl
+    let at_start = at-loop-test.before.before.before.before in
+    at-loop-test.before.loop.invariant.1 ∙ jumps_bad _ _ _ _ _ _ at-loop-test.loop-test.true at_start.requires.1 refl
     c.before.before.instruction-at.ensures (sym c.if1.true ∙ c.before.is-bad-target.ensures)
 
 add-k : tie.Need-overflow-add-k invariant-loop decreases-loop
@@ -56,14 +56,14 @@ loop-less c = omega arith
 loop-again : tie.Need-loop-preserved invariant-loop decreases-loop
 loop-again c =
     let at-loop-test = c.before.before.before.before in
-    let at-start = at-loop-test.before.before.before.before in (
+    let at_start = at-loop-test.before.before.before.before in (
       omega arith,
-      at-loop-test.before.loop.invariant.1 ∙ jumps-more _ _ _ _ _ _ at-loop-test.loop-test.true at-start.requires.1 refl
+      at-loop-test.before.loop.invariant.1 ∙ jumps_more _ _ _ _ _ _ at-loop-test.loop-test.true at_start.requires.1 refl
           c.before.before.instruction-at.ensures (sym c.if1.false ∙ c.before.is-bad-target.ensures),
     )
 
 returns-2 : tie.Need-returns-2 invariant-loop decreases-loop
-returns-2 c = c.before.loop.invariant.1 ∙ jumps-right _ _ _ c.loop-test.false
+returns-2 c = c.before.loop.invariant.1 ∙ jumps_right _ _ _ c.loop-test.false
 
 pub check-jumps-spec : {M : Type 1} → statement M
 check-jumps-spec =

@@ -2,8 +2,8 @@
 use borrow.Author.Rules.{rules}
 use mathlib.Core.Path.{sym, ◌∙◌}
 use native.Mathlib.Omega.{arith}
-use Rattle.listfile.proofs.FirstLaws.{first-long}
-use Rattle.listfile.proofs.ListLaws.{list-first, list-fields, list-jumps, list-program, table_counted}
+use Rattle.listfile.proofs.FirstLaws.{first_long}
+use Rattle.listfile.proofs.ListLaws.{list_first, list_fields, list_jumps, list_program, table_counted}
 use Rattle.listfile.proofs.check.check_list.Statement.{statement}
 use Rattle.listfile.proofs.check.check_list.Tie as tie
 
@@ -11,11 +11,11 @@ first-fault-requires : tie.Need-first-fault-requires
 first-fault-requires c κs = search rules
 
 returns : tie.Need-returns
-returns c = (list-first _ _ c.before.first-fault.ensures c.if1.true, tt)
+returns c = (list_first _ _ c.before.first-fault.ensures c.if1.true, tt)
 
 pass-fields-requires : tie.Need-pass-fields-requires
 pass-fields-requires c κs = (
-  first-long _ (sym c.before.before.first-fault.ensures ∙ c.before.if1.false),
+  first_long _ (sym c.before.before.first-fault.ensures ∙ c.before.if1.false),
   c.before.before.before.before.before.requires,
 )
 
@@ -35,7 +35,7 @@ returns-2 : tie.Need-returns-2
 returns-2 c =
     let at-pass-fields = c.before.before.before.before.before in
     let first = sym at-pass-fields.before.before.before.first-fault.ensures ∙ at-pass-fields.before.before.if1.false in (
-      list-fields _ first _ at-pass-fields.pass-fields.ensures.0 _ _ c.before.enum_told.given.1 c.refusal-in.ensures,
+      list_fields _ first _ at-pass-fields.pass-fields.ensures.0 _ _ c.before.enum_told.given.1 c.refusal-in.ensures,
       tt,
     )
 
@@ -62,7 +62,7 @@ returns-3 c =
     let at-pass = c.before.before.before.before.before.before in
     let at-pass-fields = at-pass.before.before.before.before in
     let first = sym at-pass-fields.before.before.before.first-fault.ensures ∙ at-pass-fields.before.before.if1.false in (
-      list-jumps _ first _ at-pass-fields.pass-fields.ensures.0 _
+      list_jumps _ first _ at-pass-fields.pass-fields.ensures.0 _
           at-pass.pass.given.1 _ c.before.before.before.bad-jump.ensures _ c.before.jumps.given.1,
       tt,
     )
@@ -76,7 +76,7 @@ returns-4 c =
     let at-pass-fields = at-pass.before.before.before.before in
     let first = sym at-pass-fields.before.before.before.first-fault.ensures ∙ at-pass-fields.before.before.if1.false in
     let table = table_counted _ _ _ _ at-pass.pass.given.1 at-pass-fields.pass-fields.ensures.1 in (
-      list-program _ first _ at-pass-fields.pass-fields.ensures.0 _
+      list_program _ first _ at-pass-fields.pass-fields.ensures.0 _
           at-pass.pass.given.1 _ c.before.before.before.bad-jump.ensures _
           c.short-at.ensures.0 c.before.enum-told2.given.1,
       (table.0, (c.short-at.ensures.1, table.1.0)),

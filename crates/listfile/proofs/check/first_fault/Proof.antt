@@ -1,4 +1,4 @@
--- `first_fault` is `firstFault`: at each return the checks before a place failed, and the one there holds.
+-- `first_fault` is `first_fault`: at each return the checks before a place failed, and the one there holds.
 use borrow.Author.Rules.{rules}
 use borrow.Author.Tests.{eq-eqb, ne_eqb, lt-ltb, le-ltb}
 use mathlib.Core.Bool.{not}
@@ -6,8 +6,8 @@ use mathlib.Core.Path.{sym, ap, ◌∙◌}
 use native.Mathlib.Omega.{arith}
 use lib.ListN.{length}
 use Rattle.base.specs.Bytes.{short_at}
-use Rattle.listfile.specs.Fields.{bodyLength, nextField}
-use Rattle.listfile.proofs.FirstLaws.{first_by, first-inside}
+use Rattle.listfile.specs.Fields.{body_length, next_field}
+use Rattle.listfile.proofs.FirstLaws.{first_by, first_inside}
 use Rattle.listfile.proofs.check.first_fault.Statement.{statement}
 use Rattle.listfile.proofs.check.first_fault.Tie as tie
 
@@ -26,12 +26,12 @@ add-if3 c = search rules
 returns-3 : tie.Need-returns-3
 returns-3 c =
     let l = c.before.before.before.before.before.args.list.now in
-    first_by l 2 (ne_eqb (length l) 0 (λ e. omega arith), (le-ltb (length l) 3 (omega arith), lt-ltb (length l) (nextField l 0) (omega arith)))
+    first_by l 2 (ne_eqb (length l) 0 (λ e. omega arith), (le-ltb (length l) 3 (omega arith), lt-ltb (length l) (next_field l 0) (omega arith)))
 
 returns-4 : tie.Need-returns-4
 returns-4 c =
     let l = c.before.before.before.before.before.before.args.list.now in
-    first-inside l 0 (omega arith) (ap not (ne_eqb (bodyLength l 0) 4 (λ e. omega arith)))
+    first_inside l 0 (omega arith) (ap not (ne_eqb (body_length l 0) 4 (λ e. omega arith)))
 
 short-at-requires-2 : tie.Need-short-at-requires-2
 short-at-requires-2 c κs = search rules
@@ -39,7 +39,7 @@ short-at-requires-2 c κs = search rules
 returns-5 : tie.Need-returns-5
 returns-5 c =
     let l = c.before.before.before.before.before.before.before.before.args.list.now in
-    first-inside l 1 (omega arith) (ap not (eq-eqb (bodyLength l 0) 4 (omega arith)), lt-ltb (short_at l 5) 1 (omega arith))
+    first_inside l 1 (omega arith) (ap not (eq-eqb (body_length l 0) 4 (omega arith)), lt-ltb (short_at l 5) 1 (omega arith))
 
 is-first-requires : tie.Need-is-first-requires
 is-first-requires c κs = search rules
@@ -47,14 +47,14 @@ is-first-requires c κs = search rules
 returns-6 : tie.Need-returns-6
 returns-6 c =
     let l = c.before.before.before.before.before.before.before.before.before.before.args.list.now in
-    first-inside l 3 (omega arith)
-    (ap not (eq-eqb (bodyLength l 0) 4 (omega arith)), (le-ltb (short_at l 5) 1 (omega arith), (ap not (sym c.before.is-first.ensures ∙ c.if6.true), tt)))
+    first_inside l 3 (omega arith)
+    (ap not (eq-eqb (body_length l 0) 4 (omega arith)), (le-ltb (short_at l 5) 1 (omega arith), (ap not (sym c.before.is-first.ensures ∙ c.if6.true), tt)))
 
 returns-7 : tie.Need-returns-7
 returns-7 c =
     let l = c.before.before.before.before.before.before.before.before.before.before.args.list.now in
-    first-inside l 2 (omega arith)
-    (ap not (eq-eqb (bodyLength l 0) 4 (omega arith)), (le-ltb (short_at l 5) 1 (omega arith), ap not (sym c.before.is-first.ensures ∙ c.if6.false)))
+    first_inside l 2 (omega arith)
+    (ap not (eq-eqb (body_length l 0) 4 (omega arith)), (le-ltb (short_at l 5) 1 (omega arith), ap not (sym c.before.is-first.ensures ∙ c.if6.false)))
 
 pub first-fault-spec : {M : Type 1} → statement M
 first-fault-spec =

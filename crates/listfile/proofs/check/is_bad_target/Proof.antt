@@ -1,4 +1,4 @@
--- `is_bad_target` is `badTarget`, arm by arm.
+-- `is_bad_target` is `bad_target`, arm by arm.
 use borrow.Author.Rules.{rules}
 use Rattle.listfile.proofs.check.is_bad_target.Statement.{statement}
 use Rattle.listfile.proofs.check.is_bad_target.Tie as tie

@@ -1,7 +1,7 @@
--- `is_first` is `isFirst`, test by test; the seven bytes hold every place that it reads.
+-- `is_first` is `is_first`, test by test; the seven bytes hold every place that it reads.
 use borrow.Author.Rules.{rules}
 use mathlib.Core.Path.{refl}
-use Rattle.base.specs.Bytes.{byteAt}
+use Rattle.base.specs.Bytes.{byte_at}
 use Rattle.listfile.proofs.check.is_first.Statement.{statement}
 use Rattle.listfile.proofs.check.is_first.Tie as tie
 
@@ -15,7 +15,7 @@ shared-slice-read-result-3 : tie.Need-shared-slice-read-result-3
 shared-slice-read-result-3 c = search rules
 
 returns : tie.Need-returns
-unfolding byteAt
+unfolding byte_at
 returns c = refl
 
 pub is-first-spec : {M : Type 1} → statement M

@@ -5,17 +5,17 @@ use Prim.Native.Nat.{◌+◌, ◌-◌, ◌*◌, ◌≤◌}
 use mathlib.Core.Path.{◌≡◌, refl, sym, ◌∙◌}
 use native.Mathlib.Omega.{arith}
 use lib.ListN.{length, length-set}
-use Rattle.listfile.specs.Fields.{fieldsFrom}
-use Rattle.listfile.specs.model.Table.{place_of, firstFields, TableRight, Beyond}
-use Rattle.listfile.proofs.FieldLaws.{field-lies}
-use Rattle.listfile.proofs.PassLaws.{prefixed, pass-start, pass-refused, pass-turn, pass-end, place-more, table_none, table_more, beyond-none, beyond-more}
+use Rattle.listfile.specs.Fields.{fields_from}
+use Rattle.listfile.specs.model.Table.{place_of, first_fields, TableRight, Beyond}
+use Rattle.listfile.proofs.FieldLaws.{field_lies}
+use Rattle.listfile.proofs.PassLaws.{prefixed, pass_start, pass_refused, pass_turn, pass_end, place_more, table_none, table_more, beyond_none, beyond_more}
 use Rattle.listfile.proofs.check.pass_fields.Statement.{statement}
 use Rattle.listfile.proofs.check.pass_fields.Tie as tie
 
 abbrev invariant-loop : tie.invariant-loop
 invariant-loop list table₀ at₀ count₀ furthest₀ table at count furthest =
-    (fieldsFrom (length list) list 7 0 ≡ prefixed (firstFields list count)
-    (fieldsFrom (length list - count) list at count))
+    (fields_from (length list) list 7 0 ≡ prefixed (first_fields list count)
+    (fields_from (length list - count) list at count))
     × (at ≡ place_of list count) × (7 + 3 * count ≤ at) × (at ≤ 7 + 11 * count) × (at ≤ length list) × (count ≤ 4096)
     × (length table ≡ 4096) × TableRight list table count × Beyond list count furthest
 
@@ -25,7 +25,7 @@ decreases-loop list table₀ at₀ count₀ furthest₀ table at count furthest 
 loop-holds : tie.Need-loop-init invariant-loop decreases-loop
 unfolding place_of
 loop-holds c = (
-  pass-start c.before.before.args.list.now,
+  pass_start c.before.before.args.list.now,
   refl,
   omega arith,
   omega arith,
@@ -33,7 +33,7 @@ loop-holds c = (
   omega arith,
   c.before.before.requires.1,
   table_none _ _,
-  beyond-none _ _,
+  beyond_none _ _,
 )
 
 read-at-requires : tie.Need-read-at-requires invariant-loop decreases-loop
@@ -56,7 +56,7 @@ same_length c =
 returns : tie.Need-returns invariant-loop decreases-loop
 returns c =
     let at-loop-test = c.before.before.before.before in (
-      at-loop-test.before.loop.invariant.0 ∙ pass-refused _ _ _ _ _ _ _ _ (omega arith)
+      at-loop-test.before.loop.invariant.0 ∙ pass_refused _ _ _ _ _ _ _ _ (omega arith)
           at-loop-test.loop-test.true c.before.before.before.read_at.ensures
           c.before.enum_told.given.1 c.number_of_lem.ensures,
       tt,
@@ -67,7 +67,7 @@ next-place-requires c κs = omega arith
 
 cast-table : tie.Need-overflow-cast-table invariant-loop decreases-loop
 cast-table c =
-    let lies = field-lies _ _ _ _ (sym c.before.before.before.before.read_at.ensures ∙ c.before.before.field.given.1)
+    let lies = field_lies _ _ _ _ (sym c.before.before.before.before.read_at.ensures ∙ c.before.before.field.given.1)
     in
     omega (arith, c.next_place.ensures)
 
@@ -76,7 +76,7 @@ mul-table c = omega arith
 
 slice-write-table : tie.Need-slice-write-table invariant-loop decreases-loop
 slice-write-table c =
-    let lies = field-lies _ _ _ _ (sym c.before.before.before.before.read_at.ensures ∙ c.before.before.field.given.1)
+    let lies = field_lies _ _ _ _ (sym c.before.before.before.before.read_at.ensures ∙ c.before.before.field.given.1)
     in
     omega arith
 
@@ -88,7 +88,7 @@ add-count c = omega arith
 
 loop-less : tie.Need-loop-smaller invariant-loop decreases-loop
 loop-less c =
-    let lies = field-lies _ _ _ _ (sym c.before.before.before.before.before.read_at.ensures ∙ c.before.before.before.field.given.1)
+    let lies = field_lies _ _ _ _ (sym c.before.before.before.before.before.read_at.ensures ∙ c.before.before.before.field.given.1)
     in
     omega (arith, c.before.next_place.ensures)
 
@@ -98,16 +98,16 @@ loop-again c =
     let i = at-loop-test.before.loop.invariant in
     let read = sym c.before.before.before.before.before.read_at.ensures ∙ c.before.before.before.field.given.1 in
     let next = c.before.next_place.ensures in
-    let lies = field-lies _ _ _ _ read in (
-      i.0 ∙ pass-turn _ _ _ _ _ (omega arith) at-loop-test.loop-test.true read i.1 next,
-      place-more _ _ _ _ i.1 next,
+    let lies = field_lies _ _ _ _ read in (
+      i.0 ∙ pass_turn _ _ _ _ _ (omega arith) at-loop-test.loop-test.true read i.1 next,
+      place_more _ _ _ _ i.1 next,
       omega arith,
       omega (arith, next),
       omega (arith, next),
       omega arith,
       simp length-set i.6,
       table_more _ _ _ _ _ i.7 (omega arith) i.1 read,
-      beyond-more _ _ _ _ _ _ i.8 i.1 read c.beyond.ensures.0 c.beyond.ensures.1,
+      beyond_more _ _ _ _ _ _ i.8 i.1 read c.beyond.ensures.0 c.beyond.ensures.1,
     )
 
 same-length-2 : tie.Need-same-length-2 invariant-loop decreases-loop
@@ -115,7 +115,7 @@ same-length-2 c = c.before.loop.invariant.6 ∙ sym c.before.before.before.befor
 
 returns-2 : tie.Need-returns-2 invariant-loop decreases-loop
 returns-2 c = (
-  c.before.loop.invariant.0 ∙ pass-end _ _ _ _ (omega arith) c.loop-test.false,
+  c.before.loop.invariant.0 ∙ pass_end _ _ _ _ (omega arith) c.loop-test.false,
   (omega arith, (c.before.loop.invariant.7, c.before.loop.invariant.8)),
 )
 

@@ -1,4 +1,4 @@
--- `refusal_of` is `refusalOf`, arm by arm.
+-- `refusal_of` is `refusal_of`, arm by arm.
 use borrow.Author.Rules.{rules}
 use Rattle.listfile.proofs.check.refusal_of.Statement.{statement}
 use Rattle.listfile.proofs.check.refusal_of.Tie as tie

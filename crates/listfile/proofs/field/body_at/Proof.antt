@@ -4,7 +4,7 @@ use borrow.Author.Tests.{eq-eqb, ne_eqb}
 use mathlib.Core.Path.{sym, ◌∙◌}
 use native.Mathlib.Omega.{arith}
 use Rattle.listfile.specs.Fields.{body_of}
-use Rattle.listfile.proofs.FieldLaws.{longwords-least}
+use Rattle.listfile.proofs.FieldLaws.{longwords_least}
 use Rattle.listfile.proofs.field.body_at.Statement.{statement}
 use Rattle.listfile.proofs.field.body_at.Tie as tie
 
@@ -25,7 +25,7 @@ is-one-or-two-requires c κs = search rules
 
 camac-at-requires : tie.Need-camac-at-requires
 camac-at-requires c κs =
-    let least = longwords-least c.before.before.before.before.before.short-at.result (sym c.before.is-one-or-two.ensures ∙ c.if1.true) in
+    let least = longwords_least c.before.before.before.before.before.short-at.result (sym c.before.is-one-or-two.ensures ∙ c.if1.true) in
     (c.before.before.before.before.before.before.before.requires, omega (arith, least, c.before.before.before.before.before.short-at.ensures.0))
 
 returns : tie.Need-returns

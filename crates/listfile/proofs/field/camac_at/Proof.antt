@@ -1,4 +1,4 @@
--- `camac_at` is `body_of` a CAMAC field: `decode` is `decodeOf` of what the three readers read.
+-- `camac_at` is `body_of` a CAMAC field: `decode` is `decode_of` of what the three readers read.
 use borrow.Author.Rules.{rules}
 use Rattle.listfile.specs.Fields.{first_at, body_of}
 use Rattle.listfile.proofs.field.camac_at.Statement.{statement}

@@ -5,21 +5,21 @@ use Prim.Native.Nat.{◌+◌}
 use mathlib.Core.Path.{◌∙◌}
 use native.Mathlib.Omega.{arith}
 use lib.ListN.{length}
-use Rattle.listfile.specs.Fields.{nextField}
-use Rattle.listfile.proofs.FieldLaws.{field-refused, field-inside}
+use Rattle.listfile.specs.Fields.{next_field}
+use Rattle.listfile.proofs.FieldLaws.{field_refused, field_inside}
 use Rattle.listfile.proofs.field.field_at.Statement.{statement}
 use Rattle.listfile.proofs.field.field_at.Tie as tie
 
 returns : tie.Need-returns
 returns c =
     let a = c.before.before.args in
-    field-refused a.list.now a.at a.count 0 (lt-ltb (length a.list.now) (a.at + 3) (omega arith)) (λ e. omega arith)
+    field_refused a.list.now a.at a.count 0 (lt-ltb (length a.list.now) (a.at + 3) (omega arith)) (λ e. omega arith)
 
 add-if2 : tie.Need-overflow-add-if2
 add-if2 c = search rules
 
 returns-2 : tie.Need-returns-2
-returns-2 c = field-refused _ _ _ 0 (lt-ltb _ _ c.if2.true) (λ e. omega arith)
+returns-2 c = field_refused _ _ _ 0 (lt-ltb _ _ c.if2.true) (λ e. omega arith)
 
 next-place-requires : tie.Need-next-place-requires
 next-place-requires c κs = search rules
@@ -27,16 +27,16 @@ next-place-requires c κs = search rules
 returns-3 : tie.Need-returns-3
 returns-3 c =
     let a = c.before.before.before.before.before.args in
-    field-refused a.list.now a.at a.count 1
-    (le-ltb (length a.list.now) (a.at + 3) (omega arith), lt-ltb (length a.list.now) (nextField a.list.now a.at) (omega arith))
+    field_refused a.list.now a.at a.count 1
+    (le-ltb (length a.list.now) (a.at + 3) (omega arith), lt-ltb (length a.list.now) (next_field a.list.now a.at) (omega arith))
     (λ e. omega arith)
 
 returns-4 : tie.Need-returns-4
 returns-4 c =
     let a = c.before.before.before.before.before.before.args in
-    field-refused a.list.now a.at a.count 2 (
+    field_refused a.list.now a.at a.count 2 (
       le-ltb (length a.list.now) (a.at + 3) (omega arith),
-      (le-ltb (length a.list.now) (nextField a.list.now a.at) (omega arith), le-leb 4096 a.count (omega arith)),
+      (le-ltb (length a.list.now) (next_field a.list.now a.at) (omega arith), le-leb 4096 a.count (omega arith)),
     )
     (λ e. omega arith)
 
@@ -44,7 +44,7 @@ body-at-requires : tie.Need-body-at-requires
 body-at-requires c κs = search rules
 
 returns-5 : tie.Need-returns-5
-returns-5 c = c.body_at.ensures ∙ field-inside _ _ _ (omega arith) c.before.if4.false
+returns-5 c = c.body_at.ensures ∙ field_inside _ _ _ (omega arith) c.before.if4.false
 
 pub field-at-spec : {M : Type 1} → statement M
 field-at-spec =

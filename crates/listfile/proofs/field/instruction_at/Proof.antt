@@ -1,8 +1,8 @@
--- `instruction_at` is `instructionAt`: `tag_at` is the tag, and each arm reads what the definition's clause reads; a single's second longword is
+-- `instruction_at` is `instruction_at`: `tag_at` is the tag, and each arm reads what the definition's clause reads; a single's second longword is
 -- not looked at.
 use mathlib.Core.Path.{sym, ap, ◌∙◌}
-use Rattle.listfile.specs.Fields.{first_at, secondAt}
-use Rattle.listfile.specs.model.Table.{instructionBy, instructionAt}
+use Rattle.listfile.specs.Fields.{first_at, second_at}
+use Rattle.listfile.specs.model.Table.{instruction_by, instruction_at}
 use Rattle.listfile.specs.declared.field.Instruction.TheVariants.{Camac}
 use borrow.Author.Rules.{rules}
 use Rattle.listfile.proofs.field.instruction_at.Statement.{statement}
@@ -28,14 +28,14 @@ single-in-requires : tie.Need-single-in-requires
 single-in-requires c κs = sym c.before.mode-in.ensures ∙ c.if1.true
 
 returns : tie.Need-returns
-unfolding instructionAt instructionBy first_at
+unfolding instruction_at instruction_by first_at
 returns c =
     simp (
       ← c.before.before.before.before.before.before.tag_at.ensures,
       c.before.before.before.before.enum_told.given.1,
       ← c.before.before.before.long-at.ensures,
     )
-    (ap Camac (c.single-in.ensures (secondAt _ _)))
+    (ap Camac (c.single-in.ensures (second_at _ _)))
 
 second-at-requires : tie.Need-second-at-requires
 second-at-requires c κs = search rules
@@ -71,7 +71,7 @@ enum-told-5 : tie.Need-enum-told-5
 enum-told-5 c = search rules
 
 returns-2 : tie.Need-returns-2
-unfolding instructionAt instructionBy first_at
+unfolding instruction_at instruction_by first_at
 returns-2 c =
     simp (
       ← c.before.before.before.before.before.before.before.tag_at.ensures,
@@ -82,19 +82,19 @@ returns-2 c =
     )
 
 returns-3 : tie.Need-returns-3
-unfolding instructionAt instructionBy
+unfolding instruction_at instruction_by
 returns-3 c = simp (← c.before.before.before.tag_at.ensures, c.before.enum-told2.given.1, c.short-at.ensures.0)
 
 returns-4 : tie.Need-returns-4
-unfolding instructionAt instructionBy
+unfolding instruction_at instruction_by
 returns-4 c = simp (← c.before.before.before.tag_at.ensures, c.before.enum-told3.given.1, c.long-at2.ensures)
 
 returns-5 : tie.Need-returns-5
-unfolding instructionAt instructionBy
+unfolding instruction_at instruction_by
 returns-5 c = simp (← c.before.before.tag_at.ensures, c.enum-told4.given.1)
 
 returns-6 : tie.Need-returns-6
-unfolding instructionAt instructionBy
+unfolding instruction_at instruction_by
 returns-6 c = simp (← c.before.before.tag_at.ensures, c.enum-told5.given.1)
 
 pub instruction-at-spec : {M : Type 1} → statement M

@@ -1,4 +1,4 @@
--- `next_place` is `nextField`: `short_at` reads the body's length.
+-- `next_place` is `next_field`: `short_at` reads the body's length.
 use borrow.Author.Rules.{rules}
 use native.Mathlib.Omega.{arith}
 use Rattle.listfile.proofs.field.next_place.Statement.{statement}

@@ -1,15 +1,15 @@
 -- `first_at` is `first_at`: the field lies in the list with four bytes of body at least, and its longwords passed 6 to 9.
 use native.Mathlib.Omega.{arith}
 use Rattle.listfile.specs.Fields.{first_at}
-use Rattle.listfile.proofs.PartLaws.{camac-inside, first_passes}
+use Rattle.listfile.proofs.PartLaws.{camac_inside, first_passes}
 use Rattle.listfile.proofs.parts.first_at.Statement.{statement}
 use Rattle.listfile.proofs.parts.first_at.Tie as tie
 
 add-whole-at : tie.Need-overflow-add-whole-at
-add-whole-at c = omega (arith, camac-inside _ _ c.before.requires.0 c.before.requires.1)
+add-whole-at c = omega (arith, camac_inside _ _ c.before.requires.0 c.before.requires.1)
 
 whole-at-requires : tie.Need-whole-at-requires
-whole-at-requires c κs = omega (arith, camac-inside _ _ c.before.requires.0 c.before.requires.1)
+whole-at-requires c κs = omega (arith, camac_inside _ _ c.before.requires.0 c.before.requires.1)
 
 returns : tie.Need-returns
 unfolding first_at

@@ -48,7 +48,7 @@ use Rattle.listfile.proofs.field.is_past.Symbol as is-past-def
 use Rattle.listfile.proofs.field.is_past.Symbol.{name as #listfile·is-past}
 use Rattle.listfile.proofs.field.is_past.Met as is-past-thm
 use Rattle.listfile.specs.contracts.reader.is_at_end.Key.{name as #listfile·is-at-end}
-use Rattle.listfile.specs.contracts.reader.is_at_end as at-end
+use Rattle.listfile.specs.contracts.reader.is_at_end as at_end
 use Rattle.listfile.proofs.reader.is_at_end.Statement as stated
 use Rattle.listfile.proofs.reader.is_at_end.Code as code
 
@@ -56,7 +56,7 @@ use Rattle.listfile.proofs.reader.is_at_end.Code as code
 abbrev B : Lfts 1 → RattleType
 B κs = T.the_row (named_lft 1 0 tt κs)
 
-abbrev stayed : Stays (at-end.ended).signature.params (at-end.ended).kept
+abbrev stayed : Stays (at_end.ended).signature.params (at_end.ended).kept
 stayed = (stay_none B yes, tt)
 
 module _ {M : Type 1} {𝓤 : Ura M} (𝓛 : Logic 𝓤) (mem : Memory → SProp 𝓤) (run : Routine → Fun 𝓤) where
@@ -74,7 +74,7 @@ module _ {M : Type 1} {𝓤 : Ura M} (𝓛 : Logic 𝓤) (mem : Memory → SProp
   found = leb (length d.list.now) d.at
 
   abbrev Post : Val → SProp 𝓤
-  Post = (walk_of 𝓛 at-end.ended stayed (at-end.clauses 𝓛 mem run)).post (((κ, tt), (q, tt), tt, (d, tt), (mach ∷ [], tt)), tt)
+  Post = (walk_of 𝓛 at_end.ended stayed (at_end.clauses 𝓛 mem run)).post (((κ, tt), (q, tt), tt, (d, tt), (mach ∷ [], tt)), tt)
 
   abbrev Own : Fml
   Own = (B (κ, tt)).own_val d (mach ∷ [])
@@ -100,7 +100,7 @@ module _ {M : Type 1} {𝓤 : Ura M} (𝓛 : Logic 𝓤) (mem : Memory → SProp
   asked = qed 𝓛 ((‵ (flft κ q) ⊛ ‵ ftrue) ∷ ‵ (owns (ShrSlice (named 0) κ u8 ∷ usize ∷ []) (d.list, (d.at, tt)) passed) ∷ []) ∵ join ! $ frame ! $ done !
 
   -- what the reader owns gives what `is_past` asks, and is kept
-  apart : ent 𝓤 (on_entry 𝓛 at-end.signature (κ, tt) (q, tt) (d, tt) (mach ∷ [], tt)) (sep 𝓤 ((IsPast 𝓛 mem run).pre to) (sem 𝓛 Own))
+  apart : ent 𝓤 (on_entry 𝓛 at_end.signature (κ, tt) (q, tt) (d, tt) (mach ∷ [], tt)) (sep 𝓤 ((IsPast 𝓛 mem run).pre to) (sem 𝓛 Own))
   apart =
       qed 𝓛 ((‵ (flft κ q) ⊛ ‵ ftrue) ∷ ‵ (owns (B (κ, tt) ∷ []) (d, tt) (mach ∷ [], tt)) ∷ []) ∵
       move ! (1 ∷ []) $ fsplit ! $ move ! (1 ∷ []) $ drop ! $ use1 𝓛 (‵ Own ⊛ ‵ Own) ((LL.copy D (T'.the_copy (named_lft 1 0 tt (κ, tt))) 𝓛).twice d (mach ∷ [])) $ split ! $
@@ -115,13 +115,13 @@ module _ {M : Type 1} {𝓤 : Ura M} (𝓛 : Logic 𝓤) (mem : Memory → SProp
   exits : (r : Bool) (u : Val) → r ≡ found → ent 𝓤 (⋆ 𝓛 (‵ (bool.own_val r (u ∷ [])) ∷ (‵ (flft κ q) ⊛ ‵ ftrue) ∷ ‵ Own ∷ [])) (Post u)
   exits r u e =
       qed 𝓛 (‵ (bool.own_val r (u ∷ [])) ∷ (‵ (flft κ q) ⊛ ‵ ftrue) ∷ ‵ Own ∷ []) ∵
-      suffices ! _ (ends_at 𝓛 at-end.ended stayed (at-end.clauses 𝓛 mem run) (((κ, tt), (q, tt), tt, (d, tt), (mach ∷ [], tt)), tt) u r (tt, tt) (tt, tt)) $ says ! e $
+      suffices ! _ (ends_at 𝓛 at_end.ended stayed (at_end.clauses 𝓛 mem run) (((κ, tt), (q, tt), tt, (d, tt), (mach ∷ [], tt)), tt) u r (tt, tt) (tt, tt)) $ says ! e $
       move ! (1 ∷ []) $ frame ! $ nothing ! $ move ! (2 ∷ 0 ∷ []) $ fjoin ! $ frame ! $ done !
 
   module _ (C : Calls 𝓤 H) (Λ : Loops 𝓤 H) (fm : FmC 𝓤 H 𝓛.laws C) (known : Triple 𝓤 (C #listfile·is-past) (IsPast 𝓛 mem run)) where
-    walk : Holds (has_ty (T'.mir (named 0)) mach) × WT mach → ent 𝓤 (on_entry 𝓛 at-end.signature (κ, tt) (q, tt) (d, tt) (mach ∷ [], tt)) (WpFn 𝓤 H C Λ code.function (mach ∷ []) Post)
+    walk : Holds (has_ty (T'.mir (named 0)) mach) × WT mach → ent 𝓤 (on_entry 𝓛 at_end.signature (κ, tt) (q, tt) (d, tt) (mach ∷ [], tt)) (WpFn 𝓤 H C Λ code.function (mach ∷ []) Post)
     walk wt =
-        qed 𝓛 (raw (on_entry 𝓛 at-end.signature (κ, tt) (q, tt) (d, tt) (mach ∷ [], tt)) ∷ []) ∵ enter ! C Λ code.function (mach ∷ []) _ $
+        qed 𝓛 (raw (on_entry 𝓛 at_end.signature (κ, tt) (q, tt) (d, tt) (mach ∷ [], tt)) ∷ []) ∵ enter ! C Λ code.function (mach ∷ []) _ $
         alloc1 ! (λ l₀. alloc1 ! (λ l₁. alloc1 ! (λ l₂. alloc1 ! (λ l₃. alloc0 ! $ params1 ! $ pass1 ! (init ! 4 refl wt) $ pass0 ! $
         -- [_3; …; _2; …; _1; …; room for _0; …; the token and what the parameter owns]
         assigns ! (of_opd ! (load ! (from ! (fld ! refl (stop !))) (look_in ! 4 (sub ! 0 refl (whole !))))) (from ! (stop !)) (init ! 2 refl (tt, wt.1.0)) $
@@ -140,22 +140,22 @@ module _ {M : Type 1} {𝓤 : Ura M} (𝓛 : Logic 𝓤) (mem : Memory → SProp
   open 𝓛 use {H}
 
   at-end-walks : (C : Calls 𝓤 H) (Λ : Loops 𝓤 H) → FmC 𝓤 H 𝓛.laws C → Triple 𝓤 (C #listfile·is-past) (IsPast 𝓛 mem run)
-      → Walks 𝓛 at-end.ended stayed (WpFn 𝓤 H C Λ code.function) (at-end.clauses 𝓛 mem run)
-  at-end-walks C Λ fm known = walked 𝓛 at-end.ended stayed (at-end.clauses 𝓛 mem run) (WpFn 𝓤 H C Λ code.function)
+      → Walks 𝓛 at_end.ended stayed (WpFn 𝓤 H C Λ code.function) (at_end.clauses 𝓛 mem run)
+  at-end-walks C Λ fm known = walked 𝓛 at_end.ended stayed (at_end.clauses 𝓛 mem run) (WpFn 𝓤 H C Λ code.function)
       (λ κs. (LL.vals (T.the_type (named_lft 1 0 tt κs)) (T'.the_laws (named_lft 1 0 tt κs)), tt)) (λ κs. (LL.tells (T.the_type (named_lft 1 0 tt κs)) (T'.the_laws (named_lft 1 0 tt κs)), tt))
       (λ κs qs bounds a g are. via 𝓤 _ (fst∗ 𝓤 _ (emp 𝓤)) (walk 𝓛 mem run κs.0 qs.0 a.0 C Λ fm known ((LL.lawful (T.the_type (named_lft 1 0 tt κs)) (T'.the_laws (named_lft 1 0 tt κs)) 𝓛).typed a.0 _ are.0).0))
 
 at-end-meets : {M : Type 1} {𝓤 : Ura M} (𝓛 : Logic 𝓤) (mem : Memory → SProp 𝓤) (run : Routine → Fun 𝓤) (𝓣 : Tables 𝓤 𝓛.H)
     → Triple 𝓤 (𝓣.C #listfile·is-past) (IsPast 𝓛 mem run)
-    → Meets 𝓛 at-end.signature (WpFn 𝓤 𝓛.H 𝓣.C 𝓣.Λ code.function) (at-end.spec 𝓛 mem run)
+    → Meets 𝓛 at_end.signature (WpFn 𝓤 𝓛.H 𝓣.C 𝓣.Λ code.function) (at_end.spec 𝓛 mem run)
 at-end-meets {𝓤 = 𝓤} 𝓛 mem run 𝓣 known =
-    walk_Meets 𝓛 at-end.ended stayed (Goes-none 𝓛 1 B yes (λ κs x f. refl), tt) (at-end.clauses 𝓛 mem run) (WpFn 𝓤 𝓛.H 𝓣.C 𝓣.Λ code.function) (WpFn-mono 𝓤 𝓛.H 𝓛.laws 𝓣 code.function)
+    walk_Meets 𝓛 at_end.ended stayed (Goes-none 𝓛 1 B yes (λ κs x f. refl), tt) (at_end.clauses 𝓛 mem run) (WpFn 𝓤 𝓛.H 𝓣.C 𝓣.Λ code.function) (WpFn-mono 𝓤 𝓛.H 𝓛.laws 𝓣 code.function)
     (at-end-walks 𝓛 mem run 𝓣.C 𝓣.Λ (fm_of 𝓤 𝓛.H 𝓛.laws 𝓣) known)
 
 pub is-at-end-spec : {M : Type 1} → stated.statement M
 unfolding code.routine tables_of
 is-at-end-spec 𝓤 𝓛 𝓜 𝓡 =
-    entered 𝓤 𝓛.H (triple_of 𝓛 at-end.signature (at-end.spec 𝓛 𝓜.mem 𝓡.run))
+    entered 𝓤 𝓛.H (triple_of 𝓛 at_end.signature (at_end.spec 𝓛 𝓜.mem 𝓡.run))
     (tables 𝓤 𝓛.H 𝓜 𝓡 code.env).C (tables 𝓤 𝓛.H 𝓜 𝓡 code.env).Λ #listfile·is-at-end code.function (code.unfolded 𝓤 𝓛.H 𝓜 𝓡)
     (at-end-meets 𝓛 𝓜.mem 𝓡.run (tables_of 𝓤 𝓛.H 𝓜 (tables 𝓤 𝓛.H 𝓜 𝓡 code.env))
     (cited 𝓤 𝓛.H (IsPast 𝓛 𝓜.mem 𝓡.run) 𝓜 𝓡 code.env #listfile·is-past is-past-def.routine code.calls-listfile::field::is-past (is-past-thm.met 𝓤 𝓛 𝓜 𝓡)))

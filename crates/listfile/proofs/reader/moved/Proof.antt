@@ -41,7 +41,7 @@ use denote.Triple.Table.{entered, cited}
 use denote.Triple.Walked.{says, Stays, stay_none, walk_of, Goes-none, Walks, ends_at, walked, walk_Meets}
 use denote.Exit.{yes}
 use denote.Triple.Clauses.{ensured, lasts}
-use Rattle.listfile.specs.Fields.{placeAfter}
+use Rattle.listfile.specs.Fields.{place_after}
 use Rattle.listfile.specs.declared.reader.Reader.{Reader}
 use Rattle.listfile.specs.contracts.reader.Reader as T
 use Rattle.listfile.proofs.reader.Reader.TheLaws as T'
@@ -77,7 +77,7 @@ module _ {M : Type 1} {𝓤 : Ura M} (𝓛 : Logic 𝓤) (mem : Memory → SProp
   made n = record { list = d.list; at = n }
 
   abbrev found : ℕ
-  found = placeAfter d.list.now d.at
+  found = place_after d.list.now d.at
 
   abbrev Post : Val → SProp 𝓤
   Post = (walk_of 𝓛 moved.ended stayed (moved.clauses 𝓛 mem run)).post (((κ, tt), (q, tt), tt, (d, tt), (mach ∷ [], tt)), tt)

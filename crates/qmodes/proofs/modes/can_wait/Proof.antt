@@ -1,4 +1,4 @@
--- `can_wait` is `canWait`: each arm is a clause of it.
+-- `can_wait` is `can_wait`: each arm is a clause of it.
 use borrow.Author.Rules.{rules}
 use Rattle.qmodes.proofs.modes.can_wait.Statement.{statement}
 use Rattle.qmodes.proofs.modes.can_wait.Tie as tie

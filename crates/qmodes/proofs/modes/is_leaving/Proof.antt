@@ -1,7 +1,7 @@
 -- `is_leaving` is `leaves`, by whether the word is done and the scan runs off.
 use borrow.Author.Rules.{rules}
 use mathlib.Core.Path.{sym, ◌∙◌}
-use Rattle.qmodes.proofs.Leaving.{leaves_at, leaves-done, leaves-other}
+use Rattle.qmodes.proofs.Leaving.{leaves_at, leaves_done, leaves_other}
 use Rattle.qmodes.proofs.modes.is_leaving.Statement.{statement}
 use Rattle.qmodes.proofs.modes.is_leaving.Tie as tie
 
@@ -35,7 +35,7 @@ returns c =
 
 returns-2 : tie.Need-returns-2
 returns-2 c =
-    leaves-done _ _ _ _
+    leaves_done _ _ _ _
     (sym c.before.before.before.before.is-done.ensures ∙ c.before.before.before.if1.true)
     c.before.before.after-done.ensures
     c.enum-told2.given.1
@@ -49,7 +49,7 @@ returns-3 c =
 
 returns-4 : tie.Need-returns-4
 returns-4 c =
-    leaves-other _ _ _ _
+    leaves_other _ _ _ _
     (sym c.before.before.before.before.is-done.ensures ∙ c.before.before.before.if1.false)
     c.before.before.after-other.ensures
     c.enum-told4.given.1

@@ -1,4 +1,4 @@
--- `is_same_position` is `samePosition`: two tests, one after the other.
+-- `is_same_position` is `same_position`: two tests, one after the other.
 use borrow.Author.Tests.{eq-eqb, ne_eqb}
 use Rattle.qmodes.proofs.modes.is_same_position.Statement.{statement}
 use Rattle.qmodes.proofs.modes.is_same_position.Tie as tie

@@ -1,4 +1,4 @@
--- `left_after` is `leftAfter`: by whether the word is done, then by the Q-mode.
+-- `left_after` is `left_after`: by whether the word is done, then by the Q-mode.
 use borrow.Author.Rules.{rules}
 use Rattle.qmodes.proofs.modes.left_after.Statement.{statement}
 use Rattle.qmodes.proofs.modes.left_after.Tie as tie

@@ -1,9 +1,9 @@
--- `most_left` is `mostLeft`, by the Q-mode; 65,536 words of 65,535 tries each fit.
+-- `most_left` is `most_left`, by the Q-mode; 65,536 words of 65,535 tries each fit.
 use borrow.Author.Rules.{rules}
 use Prim.Native.Nat.{◌≤◌}
 use native.Mathlib.Omega.{arith}
 use native.Mathlib.Nat.{mul-le-mul}
-use Rattle.qmodes.specs.Modes.{mostLeft}
+use Rattle.qmodes.specs.Modes.{most_left}
 use Rattle.qmodes.proofs.modes.most_left.Statement.{statement}
 use Rattle.qmodes.proofs.modes.most_left.Tie as tie
 
@@ -55,15 +55,15 @@ most-of-scan-requires : tie.Need-most-of-scan-requires
 most-of-scan-requires c κs = search rules
 
 returns : tie.Need-returns
-unfolding mostLeft
+unfolding most_left
 returns c = simp (c.enum_told.given.1, c.before.before.u64-of-size.ensures)
 
 returns-2 : tie.Need-returns-2
-unfolding mostLeft
+unfolding most_left
 returns-2 c = simp (c.enum-told2.given.1, c.before.before.u64-of-size.ensures)
 
 returns-3 : tie.Need-returns-3
-unfolding mostLeft
+unfolding most_left
 returns-3 c =
     simp (
       c.before.before.before.enum-told3.given.1,
@@ -74,7 +74,7 @@ returns-3 c =
     )
 
 returns-4 : tie.Need-returns-4
-unfolding mostLeft
+unfolding most_left
 returns-4 c = simp (c.before.enum-told4.given.1, c.most-of-scan.ensures, c.before.before.before.u64-of-size.ensures)
 
 pub most-left-spec : {M : Type 1} → statement M

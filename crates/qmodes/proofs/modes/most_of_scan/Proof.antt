@@ -1,7 +1,7 @@
--- `most_of_scan` is a scan's part of `mostLeft`: min is the smaller of the two, and both are at most 65,560.
+-- `most_of_scan` is a scan's part of `most_left`: min is the smaller of the two, and both are at most 65,560.
 use borrow.Author.Rules.{rules}
 use native.Mathlib.Omega.{arith}
-use Rattle.qmodes.proofs.Most.{stations-few, positions-few, most-over, most-places, most-steps}
+use Rattle.qmodes.proofs.Most.{stations_few, positions_few, most_over, most_places, most_steps}
 use Rattle.qmodes.proofs.modes.most_of_scan.Statement.{statement}
 use Rattle.qmodes.proofs.modes.most_of_scan.Tie as tie
 
@@ -9,7 +9,7 @@ positions-left-requires : tie.Need-positions-left-requires
 positions-left-requires c κs = search rules
 
 returns : tie.Need-returns
-returns c = most-over _ _ _ _ c.before.positions-left.ensures c.if1.true
+returns c = most_over _ _ _ _ c.before.positions-left.ensures c.if1.true
 
 less-requires : tie.Need-less-requires
 less-requires c κs = search rules
@@ -18,19 +18,19 @@ stations-left-requires : tie.Need-stations-left-requires
 stations-left-requires c κs = search rules
 
 add-steps : tie.Need-overflow-add-steps
-add-steps c = omega (arith, c.stations-left.ensures, stations-few c.before.before.before.before.args.p, c.before.less.ensures)
+add-steps c = omega (arith, c.stations-left.ensures, stations_few c.before.before.before.before.args.p, c.before.less.ensures)
 
 add-result : tie.Need-overflow-add-result
 add-result c =
     omega (
       arith,
       c.before.before.before.before.positions-left.ensures,
-      positions-few c.before.before.before.before.before.args.p,
+      positions_few c.before.before.before.before.before.args.p,
     )
 
 returns-2 : tie.Need-returns-2
 returns-2 c =
-    most-places _ _ _ _
+    most_places _ _ _ _
     c.before.before.before.before.positions-left.ensures
     c.before.before.before.if1.false
     _ (omega (arith, c.before.stations-left.ensures, c.before.before.less.ensures))
@@ -41,13 +41,13 @@ add-result-2 c =
     omega (
       arith,
       c.before.stations-left.ensures,
-      stations-few c.before.before.before.before.before.args.p,
+      stations_few c.before.before.before.before.before.args.p,
       c.before.before.less.ensures,
     )
 
 returns-3 : tie.Need-returns-3
 returns-3 c =
-    most-steps _ _ _ _
+    most_steps _ _ _ _
     c.before.before.before.before.positions-left.ensures
     c.before.before.before.if1.false
     _ (omega (arith, c.before.stations-left.ensures, c.before.before.less.ensures))

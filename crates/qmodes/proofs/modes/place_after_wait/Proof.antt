@@ -1,4 +1,4 @@
--- `place_after_wait` is `placeAfterWait`: each arm is a clause of it.
+-- `place_after_wait` is `place_after_wait`: each arm is a clause of it.
 use borrow.Author.Rules.{rules}
 use Rattle.qmodes.proofs.modes.place_after_wait.Statement.{statement}
 use Rattle.qmodes.proofs.modes.place_after_wait.Tie as tie

@@ -1,4 +1,4 @@
--- `place_after_words` is `placeAfterWords`: each arm is a clause of it.
+-- `place_after_words` is `place_after_words`: each arm is a clause of it.
 use borrow.Author.Rules.{rules}
 use Rattle.qmodes.proofs.modes.place_after_words.Statement.{statement}
 use Rattle.qmodes.proofs.modes.place_after_words.Tie as tie

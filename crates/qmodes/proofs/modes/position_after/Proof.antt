@@ -1,6 +1,6 @@
--- `position_after` is `positionAfter`, by the Q-mode and where the scan goes.
+-- `position_after` is `position_after`, by the Q-mode and where the scan goes.
 use borrow.Author.Rules.{rules}
-use Rattle.qmodes.specs.Modes.{positionAfter}
+use Rattle.qmodes.specs.Modes.{position_after}
 use Rattle.qmodes.proofs.modes.position_after.Statement.{statement}
 use Rattle.qmodes.proofs.modes.position_after.Tie as tie
 
@@ -26,19 +26,19 @@ enum-told-5 : tie.Need-enum-told-5
 enum-told-5 c = search rules
 
 returns : tie.Need-returns
-unfolding positionAfter
+unfolding position_after
 returns c = simp c.enum_told.given.1
 
 returns-2 : tie.Need-returns-2
-unfolding positionAfter
+unfolding position_after
 returns-2 c = simp c.enum-told2.given.1
 
 returns-3 : tie.Need-returns-3
-unfolding positionAfter
+unfolding position_after
 returns-3 c = simp c.enum-told3.given.1
 
 returns-4 : tie.Need-returns-4
-unfolding positionAfter
+unfolding position_after
 returns-4 c =
     simp (
       c.before.before.before.before.enum-told4.given.1,
@@ -47,7 +47,7 @@ returns-4 c =
     )
 
 returns-5 : tie.Need-returns-5
-unfolding positionAfter
+unfolding position_after
 returns-5 c = simp (c.before.before.before.enum-told4.given.1, ← c.before.before.after-answer.ensures, c.enum-told5.given.1)
 
 pub position-after-spec : {M : Type 1} → statement M

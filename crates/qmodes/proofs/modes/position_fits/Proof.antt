@@ -1,4 +1,4 @@
--- `position_fits` is `positionFits`, by the Q-mode; a scan's bounds are tested one after the other.
+-- `position_fits` is `position_fits`, by the Q-mode; a scan's bounds are tested one after the other.
 use borrow.Author.Rules.{rules}
 use borrow.Author.Tests.{le-leb, lt-leb}
 use Rattle.qmodes.proofs.modes.position_fits.Statement.{statement}

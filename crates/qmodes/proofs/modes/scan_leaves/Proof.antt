@@ -1,4 +1,4 @@
--- `scan_leaves` is `scanLeaves`, by the Q-mode.
+-- `scan_leaves` is `scan_leaves`, by the Q-mode.
 use borrow.Author.Rules.{rules}
 use Rattle.qmodes.proofs.modes.scan_leaves.Statement.{statement}
 use Rattle.qmodes.proofs.modes.scan_leaves.Tie as tie

@@ -1,6 +1,6 @@
--- `tries_after` is `triesAfter`, by the Q-mode.
+-- `tries_after` is `tries_after`, by the Q-mode.
 use borrow.Author.Rules.{rules}
-use Rattle.qmodes.specs.Modes.{triesAfter}
+use Rattle.qmodes.specs.Modes.{tries_after}
 use Rattle.qmodes.proofs.modes.tries_after.Statement.{statement}
 use Rattle.qmodes.proofs.modes.tries_after.Tie as tie
 
@@ -14,7 +14,7 @@ enum-told-3 : tie.Need-enum-told-3
 enum-told-3 c = search rules
 
 returns : tie.Need-returns
-unfolding triesAfter
+unfolding tries_after
 returns c = simp (c.before.enum-told3.given.1, c.if1.true)
 
 add-result : tie.Need-overflow-add-result
@@ -24,19 +24,19 @@ enum-told-4 : tie.Need-enum-told-4
 enum-told-4 c = search rules
 
 returns-2 : tie.Need-returns-2
-unfolding triesAfter
+unfolding tries_after
 returns-2 c = simp c.enum_told.given.1
 
 returns-3 : tie.Need-returns-3
-unfolding triesAfter
+unfolding tries_after
 returns-3 c = simp c.enum-told2.given.1
 
 returns-4 : tie.Need-returns-4
-unfolding triesAfter
+unfolding tries_after
 returns-4 c = simp (c.before.enum-told3.given.1, c.if1.false)
 
 returns-5 : tie.Need-returns-5
-unfolding triesAfter
+unfolding tries_after
 returns-5 c = simp c.enum-told4.given.1
 
 pub tries-after-spec : {M : Type 1} → statement M

@@ -1,4 +1,4 @@
--- `tries_fit` is `triesFit`, by the Q-mode.
+-- `tries_fit` is `tries_fit`, by the Q-mode.
 use borrow.Author.Rules.{rules}
 use Rattle.qmodes.proofs.modes.tries_fit.Statement.{statement}
 use Rattle.qmodes.proofs.modes.tries_fit.Tie as tie

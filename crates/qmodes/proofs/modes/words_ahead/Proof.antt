@@ -1,4 +1,4 @@
--- `words_ahead` is `wordsAhead`: each arm is a clause of it, a scan's by its last position.
+-- `words_ahead` is `words_ahead`: each arm is a clause of it, a scan's by its last position.
 use native.Mathlib.Omega.{arith}
 use borrow.Author.Rules.{rules}
 use borrow.Author.Tests.{lt-ltb, le-ltb}

@@ -1,10 +1,10 @@
--- `worst_words` is `worstWords`, arm by arm, and at most 2^48: n is at most 2^32 and R below 2^16.
+-- `worst_words` is `worst_words`, arm by arm, and at most 2^48: n is at most 2^32 and R below 2^16.
 use borrow.Author.Rules.{rules}
 use Prim.Native.Nat.{◌≤◌}
 use native.Mathlib.Omega.{arith}
 use native.Mathlib.Nat.{mul-le-mul}
 use Rattle.qmodes.specs.Scan.{stations, positions}
-use Rattle.qmodes.specs.Modes.{worstWords}
+use Rattle.qmodes.specs.Modes.{worst_words}
 use Rattle.qmodes.proofs.modes.worst_words.Statement.{statement}
 use Rattle.qmodes.proofs.modes.worst_words.Tie as tie
 
@@ -41,22 +41,22 @@ least-requires : tie.Need-least-requires
 least-requires c κs = search rules
 
 returns : tie.Need-returns
-unfolding worstWords
+unfolding worst_words
 returns c = (simp c.enum_told.given.1, omega arith)
 
 returns-2 : tie.Need-returns-2
-unfolding worstWords
+unfolding worst_words
 returns-2 c = (simp c.enum-told2.given.1, omega arith)
 
 returns-3 : tie.Need-returns-3
-unfolding worstWords
+unfolding worst_words
 returns-3 c = (
   simp c.enum-told3.given.1,
   (let few : c.before.before.args.limit ≤ 65535 = omega arith in omega (arith, mul-le-mul c.before.before.requires.1 few)),
 )
 
 returns-4 : tie.Need-returns-4
-unfolding worstWords positions
+unfolding worst_words positions
 returns-4 c = (
   simp (
     c.before.before.before.before.enum-told4.given.1,

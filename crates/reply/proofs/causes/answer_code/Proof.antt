@@ -1,7 +1,7 @@
 -- `answer_code` is `code_of` of an answer: its causes are asked from the greatest code on, and the first that holds gives the code.
 use borrow.Author.Rules.{rules}
 use mathlib.Core.Path.{refl, sym, ◌∙◌}
-use Rattle.reply.specs.Causes.{causeChecks}
+use Rattle.reply.specs.Causes.{cause_checks}
 use Rattle.reply.proofs.CodeCases.{code_at}
 use Rattle.reply.proofs.causes.answer_code.Statement.{statement}
 use Rattle.reply.proofs.causes.answer_code.Tie as tie
@@ -13,7 +13,7 @@ is-spent-requires : tie.Need-is-spent-requires
 is-spent-requires c κs = search rules
 
 returns : tie.Need-returns
-unfolding causeChecks
+unfolding cause_checks
 returns c =
     code_at _ _ _ _ _ _ c.before.before.qmode-of.ensures refl 0
     (sym c.before.is-spent.ensures ∙ c.if1.true)
@@ -22,7 +22,7 @@ has-parity-error-requires : tie.Need-has-parity-error-requires
 has-parity-error-requires c κs = search rules
 
 returns-2 : tie.Need-returns-2
-unfolding causeChecks
+unfolding cause_checks
 returns-2 c =
     let else1 = c.before.before in
     let unspent = sym else1.before.is-spent.ensures ∙ else1.if1.false in
@@ -33,7 +33,7 @@ scan-leaves-requires : tie.Need-scan-leaves-requires
 scan-leaves-requires c κs = search rules
 
 returns-3 : tie.Need-returns-3
-unfolding causeChecks
+unfolding cause_checks
 returns-3 c =
     let else2 = c.before.before in
     let else1 = else2.before.before in
@@ -46,7 +46,7 @@ has-no-x-requires : tie.Need-has-no-x-requires
 has-no-x-requires c κs = search rules
 
 returns-4 : tie.Need-returns-4
-unfolding causeChecks
+unfolding cause_checks
 returns-4 c =
     let else3 = c.before.before in
     let else2 = else3.before.before in
@@ -64,7 +64,7 @@ has-no-q-requires : tie.Need-has-no-q-requires
 has-no-q-requires c κs = search rules
 
 returns-5 : tie.Need-returns-5
-unfolding causeChecks
+unfolding cause_checks
 returns-5 c =
     let block = c.before.before in
     let else4 = block.before in
@@ -82,7 +82,7 @@ is-damaged-requires : tie.Need-is-damaged-requires
 is-damaged-requires c κs = search rules
 
 returns-6 : tie.Need-returns-6
-unfolding causeChecks
+unfolding cause_checks
 returns-6 c =
     let else5 = c.before.before in
     let block = else5.before.before in
@@ -99,7 +99,7 @@ returns-6 c =
     (unspent, (clean, (stays, (x, (q, sym c.before.is-damaged.ensures ∙ c.if6.true)))))
 
 returns-7 : tie.Need-returns-7
-unfolding causeChecks
+unfolding cause_checks
 returns-7 c =
     let else5 = c.before.before in
     let block = else5.before.before in

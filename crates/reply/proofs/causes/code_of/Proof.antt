@@ -1,6 +1,6 @@
 -- `code_of` is `code_of`, by the kind of the reply.
 use borrow.Author.Rules.{rules}
-use Rattle.reply.specs.Causes.{causesOf, code_of}
+use Rattle.reply.specs.Causes.{causes_of, code_of}
 use Rattle.reply.proofs.causes.code_of.Statement.{statement}
 use Rattle.reply.proofs.causes.code_of.Tie as tie
 
@@ -23,15 +23,15 @@ returns : tie.Need-returns
 returns c = simp (c.answer-code.ensures, c.before.before.reply.given.1)
 
 returns-2 : tie.Need-returns-2
-unfolding code_of causesOf
+unfolding code_of causes_of
 returns-2 c = simp c.enum_told.given.1
 
 returns-3 : tie.Need-returns-3
-unfolding code_of causesOf
+unfolding code_of causes_of
 returns-3 c = simp c.enum-told2.given.1
 
 returns-4 : tie.Need-returns-4
-unfolding code_of causesOf
+unfolding code_of causes_of
 returns-4 c = simp c.enum-told3.given.1
 
 pub code-of-spec : {M : Type 1} → statement M

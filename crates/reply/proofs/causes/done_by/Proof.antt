@@ -1,4 +1,4 @@
--- `done_by` is `doneBy`, by the kind of the reply.
+-- `done_by` is `done_by`, by the kind of the reply.
 use borrow.Author.Rules.{rules}
 use Rattle.reply.proofs.causes.done_by.Statement.{statement}
 use Rattle.reply.proofs.causes.done_by.Tie as tie

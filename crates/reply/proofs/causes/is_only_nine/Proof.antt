@@ -1,7 +1,7 @@
--- `is_only_nine` is `onlyNine` of the causes: an answer by the law of the only cause, and no other kind has 9.
+-- `is_only_nine` is `only_nine` of the causes: an answer by the law of the only cause, and no other kind has 9.
 use borrow.Author.Rules.{rules}
-use Rattle.reply.specs.Causes.{causesOf}
-use Rattle.reply.proofs.CodeCases.{only-nine}
+use Rattle.reply.specs.Causes.{causes_of}
+use Rattle.reply.proofs.CodeCases.{only_nine_lem}
 use Rattle.reply.proofs.causes.is_only_nine.Statement.{statement}
 use Rattle.reply.proofs.causes.is_only_nine.Tie as tie
 
@@ -25,18 +25,18 @@ returns c =
     let start = c.before.before.before.before in
     let a = c.before.before.reply.given.0.0 in
     rw (c.is-damaged.ensures, start.requires, c.before.before.reply.given.1)
-    (only-nine start.args.limit start.args.c start.args.r a)
+    (only_nine_lem start.args.limit start.args.c start.args.r a)
 
 returns-2 : tie.Need-returns-2
-unfolding causesOf
+unfolding causes_of
 returns-2 c = simp c.enum_told.given.1
 
 returns-3 : tie.Need-returns-3
-unfolding causesOf
+unfolding causes_of
 returns-3 c = simp c.enum-told2.given.1
 
 returns-4 : tie.Need-returns-4
-unfolding causesOf
+unfolding causes_of
 returns-4 c = simp c.enum-told3.given.1
 
 pub is-only-nine-spec : {M : Type 1} → statement M

@@ -1,4 +1,4 @@
--- `moved_marks` is `movedBy`, by the direction.
+-- `moved_marks` is `moved_by`, by the direction.
 use borrow.Author.Rules.{rules}
 use Rattle.reply.proofs.records.moved_marks.Statement.{statement}
 use Rattle.reply.proofs.records.moved_marks.Tie as tie

@@ -1,4 +1,4 @@
--- `note_after` is `noteAfter`, by the direction.
+-- `note_after` is `note_after`, by the direction.
 use borrow.Author.Rules.{rules}
 use Rattle.reply.proofs.records.note_after.Statement.{statement}
 use Rattle.reply.proofs.records.note_after.Tie as tie

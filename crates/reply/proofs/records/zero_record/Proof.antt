@@ -1,4 +1,4 @@
--- `zero_record` is `zeroRecord`: the first spot is instruction 0.
+-- `zero_record` is `zero_record`: the first spot is instruction 0.
 use borrow.Author.Rules.{rules}
 use Rattle.reply.proofs.records.zero_record.Statement.{statement}
 use Rattle.reply.proofs.records.zero_record.Tie as tie

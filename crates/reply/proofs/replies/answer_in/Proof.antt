@@ -1,7 +1,7 @@
 -- `answer_in` is `answer_in`: the same bits of byte 1, and the data bytes, each below 256, so that the word fits.
 use borrow.Author.Rules.{rules}
 use native.Mathlib.Nat.{div-one}
-use Rattle.base.specs.Bytes.{byteAt}
+use Rattle.base.specs.Bytes.{byte_at}
 use Rattle.reply.specs.Replies.{answer_in}
 use Rattle.reply.proofs.replies.answer_in.Statement.{statement}
 use Rattle.reply.proofs.replies.answer_in.Tie as tie
@@ -40,7 +40,7 @@ add-word-2 : tie.Need-overflow-add-word-2
 add-word-2 c = search rules
 
 returns : tie.Need-returns
-unfolding answer_in byteAt
+unfolding answer_in byte_at
 returns c = simp (c.before.before.before.before.u32-of.ensures.0, c.before.before.u32-of2.ensures.0, c.u32-of3.ensures.0, div-one)
 
 pub answer-in-spec : {M : Type 1} → statement M

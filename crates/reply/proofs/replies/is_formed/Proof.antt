@@ -1,4 +1,4 @@
--- `is_formed` is `isFormed`: bytes 2, 3 and 7 are zero in every kind; then an answer's flags are below 64, and other kinds have zeros alone.
+-- `is_formed` is `is_formed`: bytes 2, 3 and 7 are zero in every kind; then an answer's flags are below 64, and other kinds have zeros alone.
 use Prim.Native.Nat.{ℕ}
 use borrow.Author.Rules.{rules}
 use mathlib.Core.Path.{◌≡◌, refl, sym, ap, ◌∙◌}
@@ -7,10 +7,10 @@ use mathlib.Core.List.{List}
 use borrow.Author.Tests.{eq-eqb, ne_eqb, eqb-true}
 use lib.Dec.{leb, ltb, eqb}
 use lib.ListN.{length}
-use Rattle.base.specs.Bytes.{byteAt}
+use Rattle.base.specs.Bytes.{byte_at}
 use Rattle.base.proofs.Bools.{and_left, and_right}
-use Rattle.reply.specs.Replies.{hasForm, isFormed}
-use Rattle.reply.proofs.ReplyFacts.{formed-is}
+use Rattle.reply.specs.Replies.{has_form, is_formed}
+use Rattle.reply.proofs.ReplyFacts.{formed_is}
 use Rattle.reply.proofs.replies.is_formed.Statement.{statement}
 use Rattle.reply.proofs.replies.is_formed.Tie as tie
 
@@ -31,7 +31,7 @@ one-fails true true true true o k n = absurd (true≢false n)
 
 module _ (bytes : List ℕ) (eight : length bytes ≡ 8) where
   abbrev zero : ℕ → Bool
-  zero i = eqb (byteAt bytes i) 0
+  zero i = eqb (byte_at bytes i) 0
 
   abbrev rest : Bool
   rest = (zero 2 && zero 3) && zero 7
@@ -39,10 +39,10 @@ module _ (bytes : List ℕ) (eight : length bytes ≡ 8) where
   abbrev others : Bool
   others = zero 1 && (zero 4 && (zero 5 && zero 6))
 
-  form-is : rest ≡ true → isFormed bytes ≡ (ltb (byteAt bytes 1) 64 && (zero 0 || others)) && leb (byteAt bytes 0) 3
-  unfolding hasForm
+  form-is : rest ≡ true → is_formed bytes ≡ (ltb (byte_at bytes 1) 64 && (zero 0 || others)) && leb (byte_at bytes 0) 3
+  unfolding has_form
   form-is z =
-      formed-is bytes
+      formed_is bytes
       ∙ simp (
         eq-eqb (length bytes) 8 eight,
         and_left (zero 2) (zero 3) (and_left (zero 2 && zero 3) (zero 7) z),
@@ -51,22 +51,22 @@ module _ (bytes : List ℕ) (eight : length bytes ≡ 8) where
         and-true,
       )
 
-  an-answer : rest ≡ true → byteAt bytes 0 ≡ 0 → ltb (byteAt bytes 1) 64 ≡ isFormed bytes
+  an-answer : rest ≡ true → byte_at bytes 0 ≡ 0 → ltb (byte_at bytes 1) 64 ≡ is_formed bytes
   an-answer z e = sym (form-is z ∙ simp (e, and-true))
 
   another :
-      rest ≡ true → (byteAt bytes 0 ≡ 0 → ⊥)
-      → (((leb (byteAt bytes 0) 3 && zero 1) && zero 4) && zero 5) && zero 6
-      ≡ isFormed bytes
+      rest ≡ true → (byte_at bytes 0 ≡ 0 → ⊥)
+      → (((leb (byte_at bytes 0) 3 && zero 1) && zero 4) && zero 5) && zero 6
+      ≡ is_formed bytes
   another z n =
-      others-agree (ltb (byteAt bytes 1) 64) (zero 1) (zero 4) (zero 5) (zero 6) (leb (byteAt bytes 0) 3) (λ e. ap (λ (x : ℕ). ltb x 64) (eqb-true (byteAt bytes 1) 0 e))
-      ∙ sym (form-is z ∙ simp (ne_eqb (byteAt bytes 0) 0 n))
+      others-agree (ltb (byte_at bytes 1) 64) (zero 1) (zero 4) (zero 5) (zero 6) (leb (byte_at bytes 0) 3) (λ e. ap (λ (x : ℕ). ltb x 64) (eqb-true (byte_at bytes 1) 0 e))
+      ∙ sym (form-is z ∙ simp (ne_eqb (byte_at bytes 0) 0 n))
 
-  unformed-rest : rest ≡ false → false ≡ isFormed bytes
-  unfolding hasForm
+  unformed-rest : rest ≡ false → false ≡ is_formed bytes
+  unfolding has_form
   unformed-rest n =
-      one-fails (ltb (byteAt bytes 1) 64) (zero 2) (zero 3) (zero 7) (zero 0 || others) (leb (byteAt bytes 0) 3) n
-      ∙ sym (formed-is bytes ∙ simp (eq-eqb (length bytes) 8 eight, and-true))
+      one-fails (ltb (byte_at bytes 1) 64) (zero 2) (zero 3) (zero 7) (zero 0 || others) (leb (byte_at bytes 0) 3) n
+      ∙ sym (formed_is bytes ∙ simp (eq-eqb (length bytes) 8 eight, and-true))
 
 shared-slice-read-kind : tie.Need-shared-slice-read-kind
 shared-slice-read-kind c = search rules
@@ -84,7 +84,7 @@ shared-slice-read-if1-3 : tie.Need-shared-slice-read-if1-3
 shared-slice-read-if1-3 c = search rules
 
 returns : tie.Need-returns
-unfolding byteAt
+unfolding byte_at
 returns c = an-answer _ c.before.before.before.before.before.before.before.requires c.before.if1.true c.if2.true
 
 shared-slice-read-result : tie.Need-shared-slice-read-result
@@ -97,13 +97,13 @@ shared-slice-read-result-3 : tie.Need-shared-slice-read-result-3
 shared-slice-read-result-3 c = search rules
 
 returns-2 : tie.Need-returns-2
-unfolding byteAt
+unfolding byte_at
 returns-2 c =
     let at-if2 = c.before.before.before in
     another _ at-if2.before.before.before.before.before.before.before.requires at-if2.before.if1.true at-if2.if2.false
 
 returns-3 : tie.Need-returns-3
-unfolding byteAt
+unfolding byte_at
 returns-3 c = unformed-rest _ c.before.before.before.before.before.before.requires c.if1.false
 
 pub is-formed-spec : {M : Type 1} → statement M

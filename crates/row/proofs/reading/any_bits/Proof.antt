@@ -5,9 +5,9 @@ use mathlib.Core.Path.{◌≡◌, sym, ap, ◌∙◌}
 use native.Mathlib.Omega.{arith}
 use borrow.Author.Count.{below_more}
 use lib.Bits.{bit_and}
-use Rattle.base.specs.Bytes.{quadAt}
+use Rattle.base.specs.Bytes.{quad_at}
 use Rattle.row.specs.model.Words.{BitsOver}
-use Rattle.row.proofs.BitLaws.{and-or, or-none}
+use Rattle.row.proofs.BitLaws.{and_or, or_none}
 use Rattle.row.proofs.reading.any_bits.Statement.{statement}
 use Rattle.row.proofs.reading.any_bits.Tie as tie
 
@@ -36,8 +36,8 @@ loop-again : tie.Need-loop-preserved invariant-loop decreases-loop
 loop-again c = λ mask e.
     let at-loop = c.before.before in
     let a = at-loop.before.before.args in
-    let none = or-none _ _ (sym (and-or at-loop.loop.bits _ mask) ∙ e) in
-    below_more (λ (j : ℕ). a.from ≤ j → bit_and (quadAt a.row.now (j * 8)) mask ≡ 0) at-loop.loop.k (at-loop.loop.invariant mask none.0)
+    let none = or_none _ _ (sym (and_or at-loop.loop.bits _ mask) ∙ e) in
+    below_more (λ (j : ℕ). a.from ≤ j → bit_and (quad_at a.row.now (j * 8)) mask ≡ 0) at-loop.loop.k (at-loop.loop.invariant mask none.0)
     (λ f. ap (λ (x : ℕ). bit_and x mask) (sym c.quad_at.ensures) ∙ none.1)
 
 returns : tie.Need-returns invariant-loop decreases-loop

@@ -3,19 +3,19 @@ use Prim.Native.Nat.{ℕ, ◌-◌, ◌/◌, ◌%◌, ◌≤◌}
 use mathlib.Core.Path.{◌≡◌, ap, ◌∙◌}
 use native.Mathlib.Omega.{arith}
 use lib.Bits.{bit_or, bit_xor}
-use Rattle.row.specs.model.Words.{raisedOver}
-use Rattle.row.proofs.GatherLaws.{raised-none, raised-more}
+use Rattle.row.specs.model.Words.{raised_over}
+use Rattle.row.proofs.GatherLaws.{raised_none, raised_more}
 use Rattle.row.proofs.reading.any_raised.Statement.{statement}
 use Rattle.row.proofs.reading.any_raised.Tie as tie
 
 abbrev invariant-loop : tie.invariant-loop
-invariant-loop row from to bits₀ k₀ bits k = (from ≤ k) × (k ≤ to) × (bits / 256 % 64 ≡ raisedOver row from (k - from))
+invariant-loop row from to bits₀ k₀ bits k = (from ≤ k) × (k ≤ to) × (bits / 256 % 64 ≡ raised_over row from (k - from))
 
 abbrev decreases-loop : tie.decreases-loop
 decreases-loop row from to bits₀ k₀ bits k = to - k
 
 loop-holds : tie.Need-loop-init invariant-loop decreases-loop
-loop-holds c = let a = c.before.args in (omega arith, omega arith, raised-none a.row.now a.from)
+loop-holds c = let a = c.before.args in (omega arith, omega arith, raised_none a.row.now a.from)
 
 mul-quad-at : tie.Need-overflow-mul-quad-at invariant-loop decreases-loop
 mul-quad-at c = omega arith
@@ -38,7 +38,7 @@ loop-again c =
       omega arith,
       omega arith,
       ap (λ (q : ℕ). bit_or at-loop.loop.bits (bit_xor q 768) / 256 % 64) c.quad_at.ensures
-          ∙ raised-more a.row.now a.from at-loop.loop.k at-loop.loop.bits (λ i. omega (arith, byte i)) i.0 i.2,
+          ∙ raised_more a.row.now a.from at-loop.loop.k at-loop.loop.bits (λ i. omega (arith, byte i)) i.0 i.2,
     )
 
 returns : tie.Need-returns invariant-loop decreases-loop

@@ -1,8 +1,8 @@
--- `raised_bits` is `raisedBits`, part for part; each part of the flags is at most they, so that no product wraps.
+-- `raised_bits` is `raised_bits`, part for part; each part of the flags is at most they, so that no product wraps.
 use borrow.Author.Rules.{rules}
 use native.Mathlib.Omega.{arith}
 use lib.Bits.{and_le_l}
-use Rattle.row.specs.model.Words.{raisedBits}
+use Rattle.row.specs.model.Words.{raised_bits}
 use Rattle.row.proofs.reading.raised_bits.Statement.{statement}
 use Rattle.row.proofs.reading.raised_bits.Tie as tie
 
@@ -19,7 +19,7 @@ raised-error-requires : tie.Need-raised-error-requires
 raised-error-requires c κs = search rules
 
 returns : tie.Need-returns
-unfolding raisedBits
+unfolding raised_bits
 returns c = rw c.raised-error.ensures
 
 pub raised-bits-spec : {M : Type 1} → statement M

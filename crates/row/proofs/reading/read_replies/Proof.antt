@@ -6,9 +6,9 @@ use native.Mathlib.Omega.{arith}
 use borrow.Author.Count.{below_more}
 use borrow.Author.Tests.{not-true, not-false}
 use lib.ListN.{get_or, take, drop}
-use Rattle.reply.specs.Replies.{isFormed}
+use Rattle.reply.specs.Replies.{is_formed}
 use Rattle.row.specs.model.Words.{FormedOver, AnswersOver}
-use Rattle.row.proofs.ReadLaws.{one-unformed}
+use Rattle.row.proofs.ReadLaws.{one_unformed}
 use Rattle.row.proofs.reading.read_replies.Statement.{statement}
 use Rattle.row.proofs.reading.read_replies.Tie as tie
 
@@ -31,7 +31,7 @@ returns : tie.Need-returns invariant-loop decreases-loop
 returns c =
     let at-loop = c.before.before.before in
     let a = at-loop.before.before.args in
-    one-unformed a.row.now at-loop.loop.j (omega arith) (sym c.before.is-formed-at.ensures ∙ not-true _ c.if1.true)
+    one_unformed a.row.now at-loop.loop.j (omega arith) (sym c.before.is-formed-at.ensures ∙ not-true _ c.if1.true)
 
 answers-with-requires : tie.Need-answers-with-requires invariant-loop decreases-loop
 answers-with-requires c κs = omega arith
@@ -51,7 +51,7 @@ loop-again c =
     let i = at-loop.loop.invariant in
     let e = c.answers_with.ensures in (
       omega (arith, e.0),
-      below_more (λ (j : ℕ). a.from ≤ j → isFormed (take 8 (drop (j * 8) a.row.now)) ≡ true) at i.1
+      below_more (λ (j : ℕ). a.from ≤ j → is_formed (take 8 (drop (j * 8) a.row.now)) ≡ true) at i.1
           (λ f. sym at-if1.before.is-formed-at.ensures ∙ not-false _ at-if1.if1.false),
       below_more (λ (j : ℕ). a.from ≤ j → j < c.answers_with.result → get_or a.row.now (j * 8) 0 ≡ 0) at
           (λ j l f b. i.2 j l f (omega (arith, e.0))) (λ f b. e.1 b),

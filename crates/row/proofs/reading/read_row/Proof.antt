@@ -6,7 +6,7 @@ use mathlib.Core.Path.{subst}
 use native.Mathlib.Omega.{arith}
 use lib.ListN.{length}
 use Rattle.row.specs.model.Words.{FormedOver, AnswersOver, StretchReadAs}
-use Rattle.row.proofs.ReadLaws.{all-formed, cut-unformed, on-side}
+use Rattle.row.proofs.ReadLaws.{all_formed_lem, cut_unformed, on_side}
 use Rattle.row.proofs.reading.read_row.Statement.{statement}
 use Rattle.row.proofs.reading.read_row.Tie as tie
 
@@ -18,7 +18,7 @@ abbrev decreases-loop : tie.decreases-loop
 decreases-loop row count answers₀ k₀ answers k = length row / 8 - k
 
 returns : tie.Need-returns invariant-loop decreases-loop
-returns c = cut-unformed c.before.before.args.row.now c.if1.true
+returns c = cut_unformed c.before.before.args.row.now c.if1.true
 
 loop-holds : tie.Need-loop-init invariant-loop decreases-loop
 loop-holds c = (omega arith, omega arith, λ j l f. absurd (omega arith), λ j l f b. absurd (omega arith))
@@ -43,22 +43,22 @@ returns-2 c =
     subst (StretchReadAs a.row.now at-loop.loop.k _ at-loop.loop.answers) c.enum_told.given.1 at_read.read-stretch.ensures
 
 loop-less : tie.Need-loop-smaller invariant-loop decreases-loop
-loop-less c = let at-end = c.before.before.before.before in omega (arith, at-end.stretch-end.ensures.0, at-end.stretch-end.ensures.1)
+loop-less c = let at_end = c.before.before.before.before in omega (arith, at_end.stretch-end.ensures.0, at_end.stretch-end.ensures.1)
 
 loop-again : tie.Need-loop-preserved invariant-loop decreases-loop
 loop-again c =
     let at_read = c.before.before.before in
-    let at-end = at_read.before in
-    let at-loop = at-end.before.before in
+    let at_end = at_read.before in
+    let at-loop = at_end.before.before in
     let a = at-loop.before.before.before.args in
     let k = at-loop.loop.k in
     let i = at-loop.loop.invariant in
-    let e = subst (StretchReadAs a.row.now k at-end.stretch-end.result at-loop.loop.answers) c.before.read.given.1
+    let e = subst (StretchReadAs a.row.now k at_end.stretch-end.result at-loop.loop.answers) c.before.read.given.1
     at_read.read-stretch.ensures in (
-      at-end.stretch-end.ensures.1,
+      at_end.stretch-end.ensures.1,
       omega (arith, e.0),
-      λ j l f. on-side k j (λ below. i.2 j below f) (λ above. e.1.0 j l above),
-      λ j l f b. on-side k j (λ below. i.3 j below f (omega (arith, e.0))) (λ above. e.1.1 j l above b),
+      λ j l f. on_side k j (λ below. i.2 j below f) (λ above. e.1.0 j l above),
+      λ j l f b. on_side k j (λ below. i.3 j below f (omega (arith, e.0))) (λ above. e.1.1 j l above b),
     )
 
 returns-3 : tie.Need-returns-3 invariant-loop decreases-loop
@@ -67,7 +67,7 @@ returns-3 c =
     let row = at-loop.before.before.before.args.row.now in
     let i = at-loop.loop.invariant in
     record {
-      formed = all-formed row (length row / 8) (omega arith) (λ j l f. i.2 j (omega arith) f);
+      formed = all_formed_lem row (length row / 8) (omega arith) (λ j l f. i.2 j (omega arith) f);
       within = omega arith;
       kinds = λ j b. i.3 j (omega arith) (omega arith) b;
     }

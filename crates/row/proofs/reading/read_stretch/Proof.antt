@@ -2,7 +2,7 @@
 use Prim.Native.Nat.{◌*◌}
 use borrow.Author.Rules.{rules}
 use native.Mathlib.Omega.{arith}
-use Rattle.row.proofs.ReadLaws.{answer-kind, answer-formed}
+use Rattle.row.proofs.ReadLaws.{answer_kind, answer_formed}
 use Rattle.row.proofs.reading.read_stretch.Statement.{statement}
 use Rattle.row.proofs.reading.read_stretch.Tie as tie
 
@@ -17,8 +17,8 @@ returns c =
     let lacks = c.before.any-bits.ensures _ c.if1.true in (
       omega arith,
       (
-        λ j l f. answer-formed row (j * 8) (omega arith) (λ i. omega (arith, byte i)) (lacks j l f),
-        λ j l f b. answer-kind row (j * 8) (omega arith) (λ i. omega (arith, byte i)) (lacks j l f),
+        λ j l f. answer_formed row (j * 8) (omega arith) (λ i. omega (arith, byte i)) (lacks j l f),
+        λ j l f b. answer_kind row (j * 8) (omega arith) (λ i. omega (arith, byte i)) (lacks j l f),
       ),
     )
 

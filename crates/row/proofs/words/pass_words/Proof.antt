@@ -5,7 +5,7 @@ use mathlib.Core.Path.{sym, ◌∙◌}
 use native.Mathlib.Omega.{arith}
 use borrow.Author.Tests.{not-true, not-false}
 use Rattle.row.specs.model.Words.{WordsAt}
-use Rattle.row.proofs.WordLaws.{words-none, words_more, first-passed}
+use Rattle.row.proofs.WordLaws.{words_none, words_more, first_passed}
 use Rattle.row.proofs.words.pass_words.Statement.{statement}
 use Rattle.row.proofs.words.pass_words.Tie as tie
 
@@ -16,7 +16,7 @@ abbrev decreases-loop : tie.decreases-loop
 decreases-loop row from most mask k₀ k = most - k
 
 loop-holds : tie.Need-loop-init invariant-loop decreases-loop
-loop-holds c = let a = c.before.args in (omega arith, words-none a.mask a.row.now a.from)
+loop-holds c = let a = c.before.args in (omega arith, words_none a.mask a.row.now a.from)
 
 add-is-word-at : tie.Need-overflow-add-is-word-at invariant-loop decreases-loop
 add-is-word-at c = omega arith
@@ -32,7 +32,7 @@ returns c =
       i.0,
       (
         i.1,
-        λ some first. first-passed a.mask a.row.now a.from _ (sym c.before.is-word-at.ensures ∙ not-true _ c.if1.true) first,
+        λ some first. first_passed a.mask a.row.now a.from _ (sym c.before.is-word-at.ensures ∙ not-true _ c.if1.true) first,
       ),
     )
 

@@ -3,7 +3,7 @@ use borrow.Author.Rules.{rules}
 use native.Mathlib.Omega.{arith}
 use native.Mathlib.Numerals.{add-one}
 use lib.ListN.{length-set}
-use Rattle.row.proofs.WordLaws.{narrow-bytes}
+use Rattle.row.proofs.WordLaws.{narrow_bytes}
 use Rattle.row.proofs.words.put_narrow.Statement.{statement}
 use Rattle.row.proofs.words.put_narrow.Tie as tie
 
@@ -36,7 +36,7 @@ returns c =
     let start = c.before.before in
     let byte = c.shared-slice-known2.given in
     let at = start.args.at in
-    let b = narrow-bytes start.args.row.now (λ i. omega (arith, byte i)) at in
+    let b = narrow_bytes start.args.row.now (λ i. omega (arith, byte i)) at in
     rw (b.0, b.1, add-one start.args.to)
 
 pub put-narrow-spec : {M : Type 1} → statement M

@@ -5,14 +5,14 @@ use mathlib.Core.Bool.{false}
 use native.Mathlib.Omega.{arith}
 use borrow.Author.Tests.{not-true, not-false}
 use lib.ListN.{length}
-use Rattle.row.specs.model.Words.{WordsAt, wordsStored}
-use Rattle.row.proofs.WordLaws.{words-none, words_more, first-passed, stored-none, narrow-more}
+use Rattle.row.specs.model.Words.{WordsAt, words_stored}
+use Rattle.row.proofs.WordLaws.{words_none, words_more, first_passed, stored_none, narrow_more}
 use Rattle.row.proofs.words.read_narrow.Statement.{statement}
 use Rattle.row.proofs.words.read_narrow.Tie as tie
 
 abbrev invariant-loop : tie.invariant-loop
 invariant-loop incoming₀ mark row from most mask k₀ incoming k = (k ≤ most) × WordsAt mask row from k
-    × (incoming ≡ wordsStored false row from mark k incoming₀) × (length incoming ≡ length incoming₀)
+    × (incoming ≡ words_stored false row from mark k incoming₀) × (length incoming ≡ length incoming₀)
 
 abbrev decreases-loop : tie.decreases-loop
 decreases-loop incoming₀ mark row from most mask k₀ incoming k = most - k
@@ -20,7 +20,7 @@ decreases-loop incoming₀ mark row from most mask k₀ incoming k = most - k
 loop-holds : tie.Need-loop-init invariant-loop decreases-loop
 loop-holds c =
     let a = c.before.before.args in
-    (omega arith, words-none a.mask a.row.now a.from, stored-none a.row.now a.from a.mark false _, refl)
+    (omega arith, words_none a.mask a.row.now a.from, stored_none a.row.now a.from a.mark false _, refl)
 
 add-is-word-at : tie.Need-overflow-add-is-word-at invariant-loop decreases-loop
 add-is-word-at c = omega arith
@@ -36,7 +36,7 @@ returns c =
     let at-loop = c.before.before.before in
     let a = at-loop.before.before.before.args in
     let i = at-loop.loop.invariant in
-    let passed = first-passed a.mask a.row.now a.from at-loop.loop.k (sym c.before.is-word-at.ensures ∙ not-true _ c.if1.true) in
+    let passed = first_passed a.mask a.row.now a.from at-loop.loop.k (sym c.before.is-word-at.ensures ∙ not-true _ c.if1.true) in
     (i.0, (i.1, (λ some first. passed first, i.2)))
 
 mul-put-narrow : tie.Need-overflow-mul-put-narrow invariant-loop decreases-loop
@@ -70,7 +70,7 @@ loop-again c =
     let i = at-loop.loop.invariant in (
       omega arith,
       words_more a.mask a.row.now a.from _ i.1 (sym at-if1.before.is-word-at.ensures ∙ not-false _ at-if1.if1.false),
-      at-put.put-narrow.ensures ∙ narrow-more a.row.now a.from a.mark at-loop.loop.k _ _ i.2,
+      at-put.put-narrow.ensures ∙ narrow_more a.row.now a.from a.mark at-loop.loop.k _ _ i.2,
       at-put.put-narrow.auto.0 ∙ i.3,
     )
 

@@ -7,7 +7,7 @@ use mathlib.Core.List.{List}
 use native.Mathlib.Omega.{arith}
 use borrow.Author.Tests.{not-true, not-false}
 use lib.ListN.{length}
-use Rattle.row.proofs.WordLaws.{first-passed, WideRead, wide-none, wide-taken, wide-left}
+use Rattle.row.proofs.WordLaws.{first_passed, WideRead, wide_none, wide_taken, wide_left}
 use Rattle.row.proofs.words.read_wide.Statement.{statement}
 use Rattle.row.proofs.words.read_wide.Tie as tie
 
@@ -32,12 +32,12 @@ module _ (m : tie.After-take-wide invariant-loop decreases-loop) where
   at = m.before.before.before
 
   first_taken : m.take-wide.result ≡ true → Words at (at.loop.k + 1) m.take-wide.last.0
-  first_taken e = wide-taken at.loop.inv.1 m.take-wide.ensures (start at).pre.1.1.0 e
+  first_taken e = wide_taken at.loop.inv.1 m.take-wide.ensures (start at).pre.1.1.0 e
 
 loop-holds : tie.Need-loop-init invariant-loop decreases-loop
 loop-holds c =
     let a = c.before.before.args in
-    (omega arith, wide-none a.mask a.row.now a.from a.mark _, refl)
+    (omega arith, wide_none a.mask a.row.now a.from a.mark _, refl)
 
 add-loop : tie.Need-overflow-add-loop invariant-loop decreases-loop
 add-loop c = omega arith
@@ -67,8 +67,8 @@ returns c =
     let i = at-loop.loop.invariant in
     let t = c.before.before.before.take-wide.ensures in
     let stopped = not-true _ c.if1.true in
-    let r = wide-left i.1 t stopped in
-    (i.0, (r.words, (λ some first. first-passed a.mask a.row.now a.from at-loop.loop.k (sym t.0 ∙ stopped) first, r.bytes)))
+    let r = wide_left i.1 t stopped in
+    (i.0, (r.words, (λ some first. first_passed a.mask a.row.now a.from at-loop.loop.k (sym t.0 ∙ stopped) first, r.bytes)))
 
 add-next : tie.Need-overflow-add-next invariant-loop decreases-loop
 add-next c = omega arith
@@ -97,7 +97,7 @@ returns-2 : tie.Need-returns-2 invariant-loop decreases-loop
 returns-2 c =
     let at_take = c.before.before.before.before.before.before.before.before in
     let one = first_taken at_take (not-false _ c.before.before.before.before.before.if1.false) in
-    let r = wide-left one c.before.before.before.take-wide2.ensures (not-true _ c.if2.true) in
+    let r = wide_left one c.before.before.before.take-wide2.ensures (not-true _ c.if2.true) in
     (omega (arith, at_take.before.before.loop-test.true), (r.words, (λ some first. omega arith, r.bytes)))
 
 add-k : tie.Need-overflow-add-k invariant-loop decreases-loop
@@ -112,7 +112,7 @@ loop-again c =
     let at-loop = at_take.before.before.before in
     let second = c.before.before.before in
     let one = first_taken at_take (not-false _ c.before.before.before.before.before.if1.false) in
-    let two = wide-taken one second.take-wide2.ensures (start at-loop).requires.1.1.0 (not-false _ c.if2.false) in (
+    let two = wide_taken one second.take-wide2.ensures (start at-loop).requires.1.1.0 (not-false _ c.if2.false) in (
       omega (arith, at_take.before.before.loop-test.true),
       subst (λ (n : ℕ). Words at-loop n second.take-wide2.new.0) (omega arith) two,
       second.take-wide2.auto.0 ∙ at_take.take-wide.auto.0 ∙ at-loop.loop.invariant.2,
@@ -150,7 +150,7 @@ same-length-4 c = c.before.before.before.take-wide3.auto.0 ∙ c.before.before.b
 returns-4 : tie.Need-returns-4 invariant-loop decreases-loop
 returns-4 c =
     let at-loop = c.before.before.before.before.before.before.before in
-    let r = wide-taken at-loop.loop.invariant.1 c.before.before.before.take-wide3.ensures (start at-loop).requires.1.1.0 c.if4.true in
+    let r = wide_taken at-loop.loop.invariant.1 c.before.before.before.take-wide3.ensures (start at-loop).requires.1.1.0 c.if4.true in
     (omega arith, (r.words, (λ some first. omega arith, r.bytes)))
 
 same-length-5 : tie.Need-same-length-5 invariant-loop decreases-loop
@@ -162,8 +162,8 @@ returns-5 c =
     let a = (start at-loop).args in
     let i = at-loop.loop.invariant in
     let t = c.before.before.before.take-wide3.ensures in
-    let r = wide-left i.1 t c.if4.false in
-    (i.0, (r.words, (λ some first. first-passed a.mask a.row.now a.from at-loop.loop.k (sym t.0 ∙ c.if4.false) first, r.bytes)))
+    let r = wide_left i.1 t c.if4.false in
+    (i.0, (r.words, (λ some first. first_passed a.mask a.row.now a.from at-loop.loop.k (sym t.0 ∙ c.if4.false) first, r.bytes)))
 
 pub read-wide-spec : {M : Type 1} → statement M
 read-wide-spec =

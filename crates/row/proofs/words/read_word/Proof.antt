@@ -2,7 +2,7 @@
 use borrow.Author.Rules.{rules}
 use mathlib.Core.Path.{sym, ◌∙◌}
 use native.Mathlib.Omega.{arith}
-use Rattle.packing.proofs.MarkFacts.{mark-narrow, mark-wide, aligned-above, stored-narrow}
+use Rattle.packing.proofs.MarkFacts.{mark_narrow, mark_wide, aligned_above, stored_narrow}
 use Rattle.row.proofs.words.read_word.Statement.{statement}
 use Rattle.row.proofs.words.read_word.Tie as tie
 
@@ -17,7 +17,7 @@ mark-after-requires : tie.Need-mark-after-requires
 mark-after-requires c κs =
     let at-if1 = c.before.before.before.before.before in
     let start = at-if1.before.before.before in
-    omega (arith, mark-wide start.args.mark, aligned-above start.args.mark, rw at-if1.if1.true at start.requires.0)
+    omega (arith, mark_wide start.args.mark, aligned_above start.args.mark, rw at-if1.if1.true at start.requires.0)
 
 mul-put-narrow : tie.Need-overflow-mul-put-narrow
 mul-put-narrow c = search rules
@@ -25,13 +25,13 @@ mul-put-narrow c = search rules
 put-narrow-requires : tie.Need-put-narrow-requires
 put-narrow-requires c κs =
     let start = c.before.before.before.before in
-    (omega (arith, mark-narrow start.args.mark, rw c.before.if1.false at start.requires.0), start.requires.1.0)
+    (omega (arith, mark_narrow start.args.mark, rw c.before.if1.false at start.requires.0), start.requires.1.0)
 
 add-result : tie.Need-overflow-add-result
 add-result c =
     let at-if1 = c.before.before.before.before in
     let start = at-if1.before.before.before in
-    omega (arith, mark-narrow start.args.mark, rw at-if1.if1.false at start.requires.0)
+    omega (arith, mark_narrow start.args.mark, rw at-if1.if1.false at start.requires.0)
 
 same_length : tie.Need-same-length
 same_length c = search rules
@@ -51,8 +51,8 @@ returns-2 : tie.Need-returns-2
 returns-2 c =
     let at-if1 = c.before.before.before.before in
     let a = at-if1.before.before.before.args in (
-      rw at-if1.if1.false (sym (mark-narrow _)),
-      c.before.before.put-narrow.ensures ∙ rw at-if1.if1.false (sym (stored-narrow _ a.mark a.incoming.now)),
+      rw at-if1.if1.false (sym (mark_narrow _)),
+      c.before.before.put-narrow.ensures ∙ rw at-if1.if1.false (sym (stored_narrow _ a.mark a.incoming.now)),
     )
 
 pub read-word-spec : {M : Type 1} → statement M

@@ -3,8 +3,8 @@
 use borrow.Author.Rules.{rules}
 use mathlib.Core.Path.{sym, ◌∙◌}
 use native.Mathlib.Omega.{arith}
-use Rattle.packing.proofs.MarkFacts.{mark-wide, aligned-multiple, aligned-above}
-use Rattle.row.proofs.WordLaws.{first_word, aligned-words, narrow-mark, padded-words}
+use Rattle.packing.proofs.MarkFacts.{mark_wide, aligned_multiple, aligned_above}
+use Rattle.row.proofs.WordLaws.{first_word, aligned_words, narrow_mark, padded_words}
 use Rattle.row.proofs.words.read_words.Statement.{statement}
 use Rattle.row.proofs.words.read_words.Tie as tie
 
@@ -13,8 +13,8 @@ pad-requires c κs =
     let start = c.before.before.before.before in
     omega (
       arith,
-      mark-wide start.args.mark,
-      aligned-words start.args.most start.args.mark start.requires.1.1.1.0 start.requires.0,
+      mark_wide start.args.mark,
+      aligned_words start.args.most start.args.mark start.requires.1.1.1.0 start.requires.0,
       rw c.before.if1.true at start.requires.1.1.0,
     )
 
@@ -29,13 +29,13 @@ read-wide-requires c κs =
       (
         omega (
           arith,
-          aligned-words start.args.most start.args.mark even start.requires.0,
-          aligned-above start.args.mark,
+          aligned_words start.args.most start.args.mark even start.requires.0,
+          aligned_above start.args.mark,
           room,
           at-pad.pad.ensures.0,
           at-pad.pad.auto.0,
         ),
-        (omega (arith, aligned-multiple start.args.mark even, at-pad.pad.ensures.0), (start.requires.1.1.1.1.0, start.requires.1.1.1.1.1.1)),
+        (omega (arith, aligned_multiple start.args.mark even, at-pad.pad.ensures.0), (start.requires.1.1.1.1.0, start.requires.1.1.1.1.1.1)),
       ),
     )
 
@@ -52,7 +52,7 @@ add-t18 c =
       arith,
       e.0,
       at-pad.pad.ensures.0,
-      aligned-words start.args.most start.args.mark start.requires.1.1.1.0 start.requires.0,
+      aligned_words start.args.most start.args.mark start.requires.1.1.1.0 start.requires.0,
       rw at-if1.if1.true at start.requires.1.1.0,
     )
 
@@ -76,8 +76,8 @@ returns c =
           (
             e.1.1.1
                 ∙ rw (at-pad.pad.ensures.0, at-pad.pad.ensures.1, at-if1.if1.true)
-                (padded-words a.row.now a.from a.mark _ a.incoming.now even some),
-            rw (at-pad.pad.ensures.0, at-if1.if1.true) (sym (aligned-words _ a.mark even some)),
+                (padded_words a.row.now a.from a.mark _ a.incoming.now even some),
+            rw (at-pad.pad.ensures.0, at-if1.if1.true) (sym (aligned_words _ a.mark even some)),
           ),
         ),
       ),
@@ -87,7 +87,7 @@ read-narrow-requires : tie.Need-read-narrow-requires
 read-narrow-requires c κs =
     let start = c.before.before.before.before in
     let room = rw c.before.if1.false at start.requires.1.1.0 in
-    (start.requires.1.0, omega (arith, narrow-mark start.args.most start.args.mark, room))
+    (start.requires.1.0, omega (arith, narrow_mark start.args.most start.args.mark, room))
 
 mul-t21 : tie.Need-overflow-mul-t21
 mul-t21 c = search rules
@@ -99,7 +99,7 @@ add-t22 c =
     omega (
       arith,
       c.before.before.read-narrow.ensures.0,
-      narrow-mark start.args.most start.args.mark,
+      narrow_mark start.args.most start.args.mark,
       rw at-if1.if1.false at start.requires.1.1.0,
     )
 
@@ -113,7 +113,7 @@ returns-2 c =
     let start = at-if1.before.before.before in
     let a = start.args in
     let some = e.1.1.0 start.requires.0 (first_word a.mask a.row.now a.from start.requires.1.1.1.1.1.0) in
-    (some, (e.0, (e.1.0, (e.1.1.1 ∙ rw at-if1.if1.false, rw at-if1.if1.false (sym (narrow-mark _ a.mark))))))
+    (some, (e.0, (e.1.0, (e.1.1.1 ∙ rw at-if1.if1.false, rw at-if1.if1.false (sym (narrow_mark _ a.mark))))))
 
 pub read-words-spec : {M : Type 1} → statement M
 read-words-spec =

@@ -2,7 +2,7 @@
 use Prim.Native.Nat.{◌*◌}
 use borrow.Author.Rules.{rules}
 use native.Mathlib.Omega.{arith}
-use Rattle.row.proofs.WordLaws.{reply-flags, reply-top, raised_below, wide-longword, longword-below}
+use Rattle.row.proofs.WordLaws.{reply_flags, reply_top, raised_below, wide_longword, longword_below}
 use Rattle.row.proofs.words.wide_at.Statement.{statement}
 use Rattle.row.proofs.words.wide_at.Tie as tie
 
@@ -13,10 +13,10 @@ sum c =
     let byte = c.before.before.shared-slice-known2.given in
     let row = start.args.row.now in
     let k = start.args.k in
-    let flags = reply-flags row start.requires.1.0 k (omega arith) in
-    let last = reply-top row start.requires.1.0 k (omega arith) in
+    let flags = reply_flags row start.requires.1.0 k (omega arith) in
+    let last = reply_top row start.requires.1.0 k (omega arith) in
     rw (c.before.before.before.whole-at.ensures, c.before.usize-of.ensures.0)
-    (wide-longword row (λ i. omega (arith, byte i)) (k * 8) start.args.tops.now start.requires.1.1 flags last)
+    (wide_longword row (λ i. omega (arith, byte i)) (k * 8) start.args.tops.now start.requires.1.1 flags last)
 
 mul-whole-at : tie.Need-overflow-mul-whole-at
 mul-whole-at c = search rules
@@ -48,14 +48,14 @@ element-copy-out-result c =
     omega (
       arith,
       c.usize-of.ensures.0,
-      raised_below _ (reply-flags start.args.row.now start.requires.1.0 start.args.k (omega arith)),
+      raised_below _ (reply_flags start.args.row.now start.requires.1.0 start.args.k (omega arith)),
     )
 
 add-result : tie.Need-overflow-add-result
 add-result c =
     let start = c.before.before.before.before.before in
     let byte = c.before.before.shared-slice-known2.given in
-    omega (arith, sum c, longword-below start.args.row.now (λ i. omega (arith, byte i)) (start.args.k * 8))
+    omega (arith, sum c, longword_below start.args.row.now (λ i. omega (arith, byte i)) (start.args.k * 8))
 
 returns : tie.Need-returns
 returns c = sum c

@@ -1,8 +1,8 @@
 -- `binary_of` is the number of the digits, taken in pairs, under the two top bits.
 use borrow.Author.Rules.{rules}
 use native.Mathlib.Omega.{arith}
-use Rattle.scalers.specs.Scalers.{convertedTo}
-use Rattle.scalers.proofs.Sums.{tens-fit, binary-sum}
+use Rattle.scalers.specs.Scalers.{converted_to}
+use Rattle.scalers.proofs.Sums.{tens_fit, binary_sum_lem}
 use Rattle.scalers.proofs.longwords.binary_of.Statement.{statement}
 use Rattle.scalers.proofs.longwords.binary_of.Tie as tie
 
@@ -22,7 +22,7 @@ mul-pairs : tie.Need-overflow-mul-pairs
 mul-pairs c = search rules
 
 sub-pairs : tie.Need-overflow-sub-pairs
-sub-pairs c = omega (arith, tens-fit c.args.w)
+sub-pairs c = omega (arith, tens_fit c.args.w)
 
 mul-result : tie.Need-overflow-mul-result
 mul-result c = search rules
@@ -43,8 +43,8 @@ add-result-3 : tie.Need-overflow-add-result-3
 add-result-3 c = search rules
 
 returns : tie.Need-returns
-unfolding convertedTo
-returns c = binary-sum c.args.w (search rules)
+unfolding converted_to
+returns c = binary_sum_lem c.args.w (search rules)
 
 pub binary-of-spec : {M : Type 1} → statement M
 binary-of-spec =

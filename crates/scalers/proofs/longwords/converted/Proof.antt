@@ -1,4 +1,4 @@
--- `converted` is `convertedTo`, by the way.
+-- `converted` is `converted_to`, by the way.
 use borrow.Author.Rules.{rules}
 use mathlib.Core.Path.{sym}
 use Rattle.scalers.proofs.longwords.converted.Statement.{statement}

@@ -1,6 +1,6 @@
--- `is_bad` is `isBad`, by the way.
+-- `is_bad` is `is_bad`, by the way.
 use borrow.Author.Rules.{rules}
-use Rattle.scalers.proofs.Bad.{bad-value}
+use Rattle.scalers.proofs.Bad.{bad_value}
 use Rattle.scalers.proofs.longwords.is_bad.Statement.{statement}
 use Rattle.scalers.proofs.longwords.is_bad.Tie as tie
 
@@ -17,7 +17,7 @@ returns : tie.Need-returns
 returns c = simp c.before.enum_told.given.1 c.is-no-decimal.ensures
 
 returns-2 : tie.Need-returns-2
-returns-2 c = simp c.enum-told2.given.1 (bad-value _)
+returns-2 c = simp c.enum-told2.given.1 (bad_value _)
 
 pub is-bad-spec : {M : Type 1} → statement M
 is-bad-spec = tie.close (tie.spec enum_told is-no-decimal-requires enum-told-2 returns returns-2)

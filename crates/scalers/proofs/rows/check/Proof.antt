@@ -5,8 +5,8 @@ use native.Mathlib.Omega.{arith}
 use borrow.Author.Rules.{rules}
 use borrow.Author.Tests.{not-true}
 use lib.ListN.{length}
-use Rattle.scalers.specs.Scalers.{isBad}
-use Rattle.scalers.proofs.Loops.{Checking, checking-none, checking-bad, checking-next, checking-end}
+use Rattle.scalers.specs.Scalers.{is_bad}
+use Rattle.scalers.proofs.Loops.{Checking, checking_none, checking_bad, checking_next, checking_end}
 use Rattle.scalers.proofs.rows.check.Statement.{statement}
 use Rattle.scalers.proofs.rows.check.Tie as tie
 
@@ -23,7 +23,7 @@ returns : tie.Need-returns invariant-loop decreases-loop
 returns c = sym (c.before.is-any-bad.ensures (not-true _ c.if1.true))
 
 loop-holds : tie.Need-loop-init invariant-loop decreases-loop
-loop-holds c = checking-none _ _
+loop-holds c = checking_none _ _
 
 whole-at-requires : tie.Need-whole-at-requires invariant-loop decreases-loop
 whole-at-requires c κs = omega (arith, c.before.loop.invariant.whole)
@@ -34,8 +34,8 @@ is-bad-requires c κs = tt
 returns-2 : tie.Need-returns-2 invariant-loop decreases-loop
 returns-2 c =
     let at-loop = c.before.before.before.before in
-    checking-bad at-loop.loop.invariant (omega (arith, at-loop.loop.invariant.whole))
-    (ap (isBad _) (sym c.before.before.whole-at.ensures) ∙ sym c.before.is-bad.ensures ∙ c.if2.true)
+    checking_bad at-loop.loop.invariant (omega (arith, at-loop.loop.invariant.whole))
+    (ap (is_bad _) (sym c.before.before.whole-at.ensures) ∙ sym c.before.is-bad.ensures ∙ c.if2.true)
 
 add_at : tie.Need-overflow-add-at invariant-loop decreases-loop
 add_at c = omega (arith, c.before.before.before.before.loop.invariant.whole)
@@ -46,11 +46,11 @@ loop-less c = omega arith
 loop-again : tie.Need-loop-preserved invariant-loop decreases-loop
 loop-again c =
     let at-loop = c.before.before.before.before in
-    checking-next at-loop.loop.invariant (omega (arith, at-loop.loop.invariant.whole))
-    (ap (isBad _) (sym c.before.before.whole-at.ensures) ∙ sym c.before.is-bad.ensures ∙ c.if2.false)
+    checking_next at-loop.loop.invariant (omega (arith, at-loop.loop.invariant.whole))
+    (ap (is_bad _) (sym c.before.before.whole-at.ensures) ∙ sym c.before.is-bad.ensures ∙ c.if2.false)
 
 returns-3 : tie.Need-returns-3 invariant-loop decreases-loop
-returns-3 c = checking-end c.before.loop.invariant (omega arith)
+returns-3 c = checking_end c.before.loop.invariant (omega arith)
 
 pub check-spec : {M : Type 1} → statement M
 check-spec =

@@ -4,10 +4,10 @@ use Prim.Native.Nat.{ℕ}
 use mathlib.Core.Path.{◌≡◌, sym, ap, ◌∙◌}
 use mathlib.Core.List.{List}
 use native.Mathlib.Omega.{arith}
-use Rattle.base.specs.Refusals.{notRefused}
+use Rattle.base.specs.Refusals.{not_refused}
 use Rattle.base.specs.declared.Refusal.{Refusal}
 use Rattle.scalers.specs.Scalers.{Outcome, leaving}
-use Rattle.scalers.proofs.RowLaws.{no-longwords, by-check}
+use Rattle.scalers.proofs.RowLaws.{no_longwords, by_check}
 use Rattle.scalers.proofs.rows.convert.Statement.{statement}
 use Rattle.scalers.proofs.rows.convert.Tie as tie
 
@@ -16,7 +16,7 @@ parts : {o : Outcome} {refusal : Refusal} {row : List ℕ} → o ≡ record { re
 parts e = (ap (λ (o : Outcome). o.refusal) (sym e), ap (λ (o : Outcome). o.row) (sym e))
 
 returns : tie.Need-returns
-returns c = parts (no-longwords _ _ (λ e. omega (arith, c.if1.true)))
+returns c = parts (no_longwords _ _ (λ e. omega (arith, c.if1.true)))
 
 check-requires : tie.Need-check-requires
 check-requires c κs = search rules
@@ -36,7 +36,7 @@ same_length c = search rules
 
 returns-2 : tie.Need-returns-2
 returns-2 c =
-    parts (by-check _ _ c.before.before.before.before.before.if1.false
+    parts (by_check _ _ c.before.before.before.before.before.if1.false
     (sym c.before.at.given.1 ∙ c.before.before.before.check.ensures))
 
 same-length-2 : tie.Need-same-length-2
@@ -46,8 +46,8 @@ returns-3 : tie.Need-returns-3
 returns-3 c =
     let at-check = c.before.before.before.before.before.before in
     let called = c.before.before.convert-all in
-    parts (by-check _ _ at-check.before.before.if1.false (sym c.before.before.before.before.enum_told.given.1 ∙ at-check.check.ensures)
-    ∙ ap (leaving notRefused) (sym called.ensures))
+    parts (by_check _ _ at-check.before.before.if1.false (sym c.before.before.before.before.enum_told.given.1 ∙ at-check.check.ensures)
+    ∙ ap (leaving not_refused) (sym called.ensures))
 
 pub convert-spec : {M : Type 1} → statement M
 convert-spec =

@@ -4,9 +4,9 @@ use mathlib.Core.Path.{◌≡◌, refl, sym, ap, ◌∙◌}
 use mathlib.Core.Bool.{false}
 use native.Mathlib.Omega.{arith}
 use lib.ListN.{length}
-use Rattle.base.proofs.Bools.{or-false-left, or-false-right}
-use Rattle.scalers.specs.Scalers.{isBad}
-use Rattle.scalers.proofs.Loops.{Checking, checking-none, checking-next, checking-end}
+use Rattle.base.proofs.Bools.{or_false_left, or_false_right}
+use Rattle.scalers.specs.Scalers.{is_bad}
+use Rattle.scalers.proofs.Loops.{Checking, checking_none, checking_next, checking_end}
 use Rattle.scalers.proofs.rows.is_any_bad.Statement.{statement}
 use Rattle.scalers.proofs.rows.is_any_bad.Tie as tie
 
@@ -17,7 +17,7 @@ abbrev decreases-loop : tie.decreases-loop
 decreases-loop way row at₀ found₀ at found = length row - at
 
 loop-holds : tie.Need-loop-init invariant-loop decreases-loop
-loop-holds c = (refl, λ e. checking-none _ _)
+loop-holds c = (refl, λ e. checking_none _ _)
 
 whole-at-requires : tie.Need-whole-at-requires invariant-loop decreases-loop
 whole-at-requires c κs = omega arith
@@ -37,12 +37,12 @@ loop-again c =
     let found = at-loop.loop.is_found in (
       omega (arith, at-loop.loop.invariant.0),
       λ e.
-          checking-next (at-loop.loop.invariant.1 (or-false-left found c.is-bad.result e)) (omega (arith, at-loop.loop.invariant.0))
-          (ap (isBad _) (sym c.before.whole-at.ensures) ∙ sym c.is-bad.ensures ∙ or-false-right found c.is-bad.result e),
+          checking_next (at-loop.loop.invariant.1 (or_false_left found c.is-bad.result e)) (omega (arith, at-loop.loop.invariant.0))
+          (ap (is_bad _) (sym c.before.whole-at.ensures) ∙ sym c.is-bad.ensures ∙ or_false_right found c.is-bad.result e),
     )
 
 returns : tie.Need-returns invariant-loop decreases-loop
-returns c = λ e. sym (checking-end (c.before.loop.invariant.1 e) (omega arith))
+returns c = λ e. sym (checking_end (c.before.loop.invariant.1 e) (omega arith))
 
 pub is-any-bad-spec : {M : Type 1} → statement M
 is-any-bad-spec =

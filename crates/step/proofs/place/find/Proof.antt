@@ -1,40 +1,40 @@
--- `find` is `findIn` over the whole walk: the invariant is that the search from here finds what it finds from the start, and that the sums
+-- `find` is `find_in` over the whole walk: the invariant is that the search from here finds what it finds from the start, and that the sums
 -- and those ahead come to the walk's.
 use mathlib.Core.Path.{refl, sym, ◌∙◌}
 use native.Mathlib.Omega.{arith}
 use borrow.Author.Rules.{rules}
 use lib.ListN.{length}
-use Rattle.walk.specs.Admission.{countsOf}
-use Rattle.walk.specs.model.Sums.{restFrom, planBy}
-use Rattle.walk.proofs.SumLaws.{words-few}
+use Rattle.walk.specs.Admission.{counts_of}
+use Rattle.walk.specs.model.Sums.{rest_from, plan_by}
+use Rattle.walk.proofs.SumLaws.{words_few}
 use Rattle.step.proofs.Onward.{within}
-use Rattle.step.proofs.Search.{Finding, finding-start, finding-below, find-missing, find-here, find-on}
+use Rattle.step.proofs.Search.{Finding, finding_start, finding_below, find_missing, find_here, find_on}
 use Rattle.step.proofs.place.find.Statement.{statement}
 use Rattle.step.proofs.place.find.Tie as tie
 
 abbrev invariant-loop : tie.invariant-loop
-invariant-loop list table sizes sought at₀ sums₀ at sums = Finding list sizes.count sizes.limit sought (countsOf (planBy list sizes)) at sums
+invariant-loop list table sizes sought at₀ sums₀ at sums = Finding list sizes.count sizes.limit sought (counts_of (plan_by list sizes)) at sums
 
 abbrev decreases-loop : tie.decreases-loop
-decreases-loop list table sizes sought at₀ sums₀ at sums = length (restFrom list sizes.count at)
+decreases-loop list table sizes sought at₀ sums₀ at sums = length (rest_from list sizes.count at)
 
 first-spot-requires : tie.Need-first-spot-requires invariant-loop decreases-loop
 first-spot-requires c κs = search rules
 
 loop-holds : tie.Need-loop-init invariant-loop decreases-loop
-loop-holds c = rw c.first-spot.ensures (finding-start _ _ _ c.before.before.before.requires.1.walk)
+loop-holds c = rw c.first-spot.ensures (finding_start _ _ _ c.before.before.before.requires.1.walk)
 
 mul-instruction-at : tie.Need-overflow-mul-instruction-at invariant-loop decreases-loop
 mul-instruction-at c = omega (arith, within _ _ _ c.loop.invariant.on, c.before.before.before.before.requires.1.few)
 
 shared-slice-read-instruction-at : tie.Need-shared-slice-read-instruction-at invariant-loop decreases-loop
 shared-slice-read-instruction-at c =
-    let at-start = c.before.before.before.before.before in
+    let at_start = c.before.before.before.before.before in
     omega (
       arith,
       within _ _ _ c.before.loop.invariant.on,
-      at-start.requires.1.few,
-      at-start.requires.0,
+      at_start.requires.1.few,
+      at_start.requires.0,
     )
 
 instruction-at-requires : tie.Need-instruction-at-requires invariant-loop decreases-loop
@@ -42,17 +42,17 @@ instruction-at-requires c κs = search rules
 
 turn-of-requires : tie.Need-turn-of-requires invariant-loop decreases-loop
 turn-of-requires c κs =
-    let at-loop = c.before.before in let at-start = at-loop.before.before.before.before in (
-      at-start.requires.1.small,
+    let at-loop = c.before.before in let at_start = at-loop.before.before.before.before in (
+      at_start.requires.1.small,
       (
-        words-few _ _ _ c.instruction-at.ensures,
+        words_few _ _ _ c.instruction-at.ensures,
         (
           omega (
             arith,
             within _ _ _ at-loop.loop.invariant.on,
-            at-start.requires.1.few,
+            at_start.requires.1.few,
           ),
-          finding-below _ _ _ _ _ _ _ at-loop.loop.invariant at-start.requires.1.below,
+          finding_below _ _ _ _ _ _ _ at-loop.loop.invariant at_start.requires.1.below,
         ),
       ),
     )
@@ -66,7 +66,7 @@ enum_told c = search rules
 returns : tie.Need-returns invariant-loop decreases-loop
 returns c =
     let at-loop = c.before.before.before.before.before in
-    find-missing _ _ _ _ _ _ at-loop.before.before.before.before.requires.1.right refl c.before.before.before.instruction-at.ensures _ _ _ _
+    find_missing _ _ _ _ _ _ at-loop.before.before.before.before.requires.1.right refl c.before.before.before.instruction-at.ensures _ _ _ _
     at-loop.loop.invariant (sym c.before.before.turn-of.ensures ∙ c.enum_told.given.1)
 
 is-same-spot-requires : tie.Need-is-same-spot-requires invariant-loop decreases-loop
@@ -79,22 +79,22 @@ returns-2 : tie.Need-returns-2 invariant-loop decreases-loop
 returns-2 c =
     let at-if1 = c.before in let at_turn = at-if1.before.before.before in let at-turn-of = at_turn.before.before in
     let at-instruction-at = at-turn-of.before in let at-loop = at-instruction-at.before.before in
-    let at-start = at-loop.before.before.before.before in
-    c.found_at.ensures ∙ find-here _ _ _ _ _ _ at-start.requires.1.right refl at-instruction-at.instruction-at.ensures _ _ _ _
+    let at_start = at-loop.before.before.before.before in
+    c.found_at.ensures ∙ find_here _ _ _ _ _ _ at_start.requires.1.right refl at-instruction-at.instruction-at.ensures _ _ _ _
     at-loop.loop.invariant _ _ (sym at-turn-of.turn-of.ensures ∙ at_turn.turn.given.1) (sym at-if1.before.is-same-spot.ensures ∙ at-if1.if1.true)
 
 loop-less : tie.Need-loop-smaller invariant-loop decreases-loop
 loop-less c =
     let at_turn = c.before.before.before in let at-turn-of = at_turn.before.before in let at-instruction-at = at-turn-of.before in
-    let at-loop = at-instruction-at.before.before in let at-start = at-loop.before.before.before.before in
-    (find-on _ _ _ _ _ _ at-start.requires.1.right refl at-instruction-at.instruction-at.ensures _ _ _ _ at-loop.loop.invariant _ _ (sym
+    let at-loop = at-instruction-at.before.before in let at_start = at-loop.before.before.before.before in
+    (find_on _ _ _ _ _ _ at_start.requires.1.right refl at-instruction-at.instruction-at.ensures _ _ _ _ at-loop.loop.invariant _ _ (sym
     at-turn-of.turn-of.ensures ∙ at_turn.turn.given.1) (sym c.before.is-same-spot.ensures ∙ c.if1.false)).1
 
 loop-again : tie.Need-loop-preserved invariant-loop decreases-loop
 loop-again c =
     let at_turn = c.before.before.before in let at-turn-of = at_turn.before.before in let at-instruction-at = at-turn-of.before in
-    let at-loop = at-instruction-at.before.before in let at-start = at-loop.before.before.before.before in
-    (find-on _ _ _ _ _ _ at-start.requires.1.right refl at-instruction-at.instruction-at.ensures _ _ _ _ at-loop.loop.invariant _ _ (sym
+    let at-loop = at-instruction-at.before.before in let at_start = at-loop.before.before.before.before in
+    (find_on _ _ _ _ _ _ at_start.requires.1.right refl at-instruction-at.instruction-at.ensures _ _ _ _ at-loop.loop.invariant _ _ (sym
     at-turn-of.turn-of.ensures ∙ at_turn.turn.given.1) (sym c.before.is-same-spot.ensures ∙ c.if1.false)).0
 
 pub find_spec : {M : Type 1} → statement M

@@ -1,7 +1,7 @@
 -- `turn_at` is `turn_of` the field's instruction, arm by arm: the tag tells its kind, and each arm reads what that kind needs.
 use borrow.Author.Rules.{rules}
 use mathlib.Core.Path.{sym, ◌∙◌}
-use Rattle.listfile.specs.model.Table.{instructionBy, instructionAt}
+use Rattle.listfile.specs.model.Table.{instruction_by, instruction_at}
 use Rattle.walk.specs.model.Sums.{turn_of}
 use Rattle.walk.proofs.visits.turn_at.Statement.{statement}
 use Rattle.walk.proofs.visits.turn_at.Tie as tie
@@ -17,8 +17,8 @@ spot-after-requires c κs = search rules
 
 after-field-requires : tie.Need-after-field-requires
 after-field-requires c κs =
-    let at-start = c.before.before.before.before.before in
-    (at-start.requires.0, (at-start.requires.1.0, (sym c.before.before.before.tag_in.ensures ∙ c.before.enum_told.given.1, at-start.requires.1.1.1)))
+    let at_start = c.before.before.before.before.before in
+    (at_start.requires.0, (at_start.requires.1.0, (sym c.before.before.before.tag_in.ensures ∙ c.before.enum_told.given.1, at_start.requires.1.1.1)))
 
 enum-told-2 : tie.Need-enum-told-2
 enum-told-2 c = search rules
@@ -45,23 +45,23 @@ enum-told-5 : tie.Need-enum-told-5
 enum-told-5 c = search rules
 
 returns : tie.Need-returns
-unfolding turn_of instructionAt instructionBy
+unfolding turn_of instruction_at instruction_by
 returns c = simp (← c.before.before.before.before.tag_in.ensures, c.before.before.enum_told.given.1, c.before.spot-after.ensures, c.after-field.ensures)
 
 returns-2 : tie.Need-returns-2
-unfolding turn_of instructionAt instructionBy
+unfolding turn_of instruction_at instruction_by
 returns-2 c = simp (← c.before.before.before.before.tag_in.ensures, c.before.before.enum-told2.given.1, c.jump_to.ensures, c.before.target_at.ensures)
 
 returns-3 : tie.Need-returns-3
-unfolding turn_of instructionAt instructionBy
+unfolding turn_of instruction_at instruction_by
 returns-3 c = simp (← c.before.before.before.before.tag_in.ensures, c.before.before.enum-told3.given.1, c.before.spot-after2.ensures, c.mark-after-words.ensures)
 
 returns-4 : tie.Need-returns-4
-unfolding turn_of instructionAt instructionBy
+unfolding turn_of instruction_at instruction_by
 returns-4 c = simp (← c.before.before.tag_in.ensures, c.enum-told4.given.1)
 
 returns-5 : tie.Need-returns-5
-unfolding turn_of instructionAt instructionBy
+unfolding turn_of instruction_at instruction_by
 returns-5 c = simp (← c.before.before.tag_in.ensures, c.enum-told5.given.1)
 
 pub turn-at-spec : {M : Type 1} → statement M

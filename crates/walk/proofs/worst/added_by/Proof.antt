@@ -1,4 +1,4 @@
--- `added_by` is `addedBy`, by the direction.
+-- `added_by` is `added_by`, by the direction.
 use borrow.Author.Rules.{rules}
 use Rattle.walk.proofs.worst.added_by.Statement.{statement}
 use Rattle.walk.proofs.worst.added_by.Tie as tie

@@ -1,5 +1,5 @@
--- `after_command` is `afterCommand`: each part is what the callee for it ensures.
-use Rattle.walk.specs.model.Sums.{afterCommand}
+-- `after_command` is `after_command`: each part is what the callee for it ensures.
+use Rattle.walk.specs.model.Sums.{after_command}
 use borrow.Author.Rules.{rules}
 use Rattle.walk.proofs.worst.after_command.Statement.{statement}
 use Rattle.walk.proofs.worst.after_command.Tie as tie
@@ -26,7 +26,7 @@ added-by-requires : tie.Need-added-by-requires
 added-by-requires c κs = search rules
 
 returns : tie.Need-returns
-unfolding afterCommand
+unfolding after_command
 returns c =
     simp (
       c.added-by.ensures,

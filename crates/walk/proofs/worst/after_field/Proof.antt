@@ -1,10 +1,10 @@
--- `after_field` is `afterCommand` of the field's instruction: each part is what the bits say of it.
+-- `after_field` is `after_command` of the field's instruction: each part is what the bits say of it.
 use Prim.Native.Nat.{◌^◌, ◌≤◌}
 use mathlib.Core.Path.{sym}
 use native.Mathlib.Omega.{arith}
-use Rattle.camac.proofs.BitLaws.{command-few}
-use Rattle.listfile.specs.Fields.{secondAt}
-use Rattle.walk.proofs.SumLaws.{field-sums}
+use Rattle.camac.proofs.BitLaws.{command_few}
+use Rattle.listfile.specs.Fields.{second_at}
+use Rattle.walk.proofs.SumLaws.{field_sums}
 use borrow.Author.Rules.{rules}
 use Rattle.walk.proofs.worst.after_field.Statement.{statement}
 use Rattle.walk.proofs.worst.after_field.Tie as tie
@@ -12,7 +12,7 @@ use Rattle.walk.proofs.worst.after_field.Tie as tie
 few : (c : tie.After-words-at) → c.words-at.result ≤ 2 ^ 32
 few c =
     let start = c.before.before.before.before.args in
-    omega (arith, command-few c.before.before.first-at.result (secondAt start.list.now start.at), c.words-at.ensures)
+    omega (arith, command_few c.before.before.first-at.result (second_at start.list.now start.at), c.words-at.ensures)
 
 first-at-requires : tie.Need-first-at-requires
 first-at-requires c κs = search rules
@@ -44,9 +44,9 @@ added-by-requires c κs = (few c.before.before.before.before.before, c.before.be
 returns : tie.Need-returns
 returns c =
     let start = c.before.before.before.before.before.before.before.before.before.before.args in
-    let second = secondAt start.list.now start.at in
+    let second = second_at start.list.now start.at in
     rw (c.added-by.ensures, ← c.before.before.before.before.before.before.before.before.first-at.ensures.0)
-    (field-sums start.limit c.before.before.before.before.before.before.before.before.first-at.result second start.s _ _ _ _ _ _ c.before.before.before.before.before.qmode-in.ensures
+    (field_sums start.limit c.before.before.before.before.before.before.before.before.first-at.result second start.s _ _ _ _ _ _ c.before.before.before.before.before.qmode-in.ensures
     (c.before.before.before.before.start-in.ensures second) c.before.before.before.before.before.before.before.is_IsWide.ensures c.before.before.before.before.before.before.words-at.ensures c.before.before.before.worst-words.ensures.0
     (sym (c.before.direction-in.ensures second)))
 

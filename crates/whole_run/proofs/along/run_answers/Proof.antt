@@ -5,11 +5,11 @@ use mathlib.Core.Path.{◌≡◌, ◌∙◌}
 use native.Mathlib.Omega.{arith}
 use borrow.Author.Rules.{rules}
 use lib.ListN.{length}
-use Rattle.walk.specs.Walk.{spotAfter}
+use Rattle.walk.specs.Walk.{spot_after}
 use Rattle.reply.specs.declared.records.Record.{Record}
 use Rattle.step.proofs.PlanLaws.{askable}
 use Rattle.whole_run.specs.model.Along.{Reaches}
-use Rattle.whole_run.proofs.RunTurn.{Run, Standing, BeforeWord, grounds-table, waiting, word-start, word-spot, word-position, word-again, word-roomy, words-passed, word-stop, next-taken, word_next, standing-halt}
+use Rattle.whole_run.proofs.RunTurn.{Run, Standing, BeforeWord, grounds_table, waiting, word_start, word_spot, word_position, word_again, word_roomy, words_passed, word_stop, next_taken, word_next, standing_halt}
 use Rattle.whole_run.proofs.along.run_answers.Statement.{statement}
 use Rattle.whole_run.proofs.along.run_answers.Tie as tie
 
@@ -43,7 +43,7 @@ module _ (a : tie.At-loop invariant-loop decreases-loop) where
   word : At start.args.r
   word =
       let p = start.pre in
-      a.loop.inv start.args.r (word-start p.0 p.1.1 p.1.0.0 p.1.0.1.0 p.1.0.1.1
+      a.loop.inv start.args.r (word_start p.0 p.1.1 p.1.0.0 p.1.0.1.0 p.1.0.1.1
       (waiting p.0 p.1.0.1.0 p.1.0.1.1 a.before.before.before.usize-of-short.ensures) a.before.before.first-at.ensures
       a.before.stay_of.ensures)
 
@@ -54,7 +54,7 @@ module _ (m : tie.After-visit invariant-loop decreases-loop) where
 
   passed : {r : Record} → At at r → Standing (run at r) at.loop.spot m.visit.result m.visit.last.1.1.1.0
       × (at.loop.here.taken + at.loop.here.left ≤ m.visit.result.taken + m.visit.result.left)
-  passed x = let p = (start at).pre in words-passed p.0 p.1.1 x m.visit.ensures
+  passed x = let p = (start at).pre in words_passed p.0 p.1.1 x m.visit.ensures
 
 -- on along the walk
 module _ (k : tie.After-reach invariant-loop decreases-loop) where
@@ -65,7 +65,7 @@ module _ (k : tie.After-reach invariant-loop decreases-loop) where
   none = k.before.before.before.before.if1.left
 
   reached : Reaches (start (at visited)).args.list.now (start (at visited)).args.table.now (start (at visited)).args.sizes.count
-      (spotAfter (at visited).loop.spot) visited.visit.result.marks visited.visit.last.1.1.1.0 k.reach.result k.reach.last.1.1.1.1.1.0
+      (spot_after (at visited).loop.spot) visited.visit.result.marks visited.visit.last.1.1.1.0 k.reach.result k.reach.last.1.1.1.1.1.0
   reached = rw k.before.before.spot-after.ensures at k.reach.ensures
 
 mul-usize-of-short : tie.Need-overflow-mul-usize-of-short invariant-loop decreases-loop
@@ -93,7 +93,7 @@ loop-holds c = λ r x. x
 visit-requires : tie.Need-visit-requires invariant-loop decreases-loop
 visit-requires c κs =
     let a = c.before in let p = (start a).requires in
-    (p.0.prepared.planned.small, ((word a).command.passes, word-roomy p.0 p.1.1 (word a)), p.2)
+    (p.0.prepared.planned.small, ((word a).command.passes, word_roomy p.0 p.1.1 (word a)), p.2)
 
 same_length : tie.Need-same-length invariant-loop decreases-loop
 same_length c = let m = c.before.before.before.before in (passed m (word (at m))).0.kept
@@ -101,17 +101,17 @@ same_length c = let m = c.before.before.before.before in (passed m (word (at m))
 returns : tie.Need-returns invariant-loop decreases-loop
 returns c =
     let m = c.before.before.before.before in let p = (start (at m)).pre in
-    let y = word-again (word (at m)) (passed m (word (at m))).0 c.if1.true in
-    (word-stop p.0 p.1.1 y, (y.stands.onward, omega (arith, word-position p.0 p.1.1 y)))
+    let y = word_again (word (at m)) (passed m (word (at m))).0 c.if1.true in
+    (word_stop p.0 p.1.1 y, (y.stands.onward, omega (arith, word_position p.0 p.1.1 y)))
 
 spot-after-requires : tie.Need-spot-after-requires invariant-loop decreases-loop
 spot-after-requires c κs =
-    let a = c.before.before.before.before.before.before.before in let p = (start a).requires in word-spot p.0 p.1.1 (word a)
+    let a = c.before.before.before.before.before.before.before in let p = (start a).requires in word_spot p.0 p.1.1 (word a)
 
 reach-requires : tie.Need-reach-requires invariant-loop decreases-loop
 reach-requires c κs =
     let m = c.before.before.before.before.before.before.before in
-    (grounds-table (start (at m)).pre.0, rw c.before.spot-after.ensures ((passed m (word (at m))).0.behind c.before.before.before.if1.false))
+    (grounds_table (start (at m)).pre.0, rw c.before.spot-after.ensures ((passed m (word (at m))).0.behind c.before.before.before.if1.false))
 
 leave-requires : tie.Need-leave-requires invariant-loop decreases-loop
 leave-requires c κs = search rules
@@ -124,7 +124,7 @@ same-length-2 c =
 returns-2 : tie.Need-returns-2 invariant-loop decreases-loop
 returns-2 c =
     let k = c.before.before.before.before.before.before in let m = visited k in let p = (start (at m)).pre in
-    standing-halt p.0 p.1.1 (passed m (word (at m))).0 (none k) (reached k) c.before.if2.true c.leave.ensures
+    standing_halt p.0 p.1.1 (passed m (word (at m))).0 (none k) (reached k) c.before.if2.true c.leave.ensures
 
 arrive-requires : tie.Need-arrive-requires invariant-loop decreases-loop
 arrive-requires c κs = ((reached c.before.before.before.before.before).command c.if2.false).passes
@@ -138,7 +138,7 @@ loop-less c =
       (word (at m)).some,
       none k,
       h.0.formed.within,
-      next-taken p.0 p.1.1 h.0 (none k) (reached k) c.before.if2.false c.arrive.ensures,
+      next_taken p.0 p.1.1 h.0 (none k) (reached k) c.before.if2.false c.arrive.ensures,
     )
 
 loop-again : tie.Need-loop-preserved invariant-loop decreases-loop

@@ -1,16 +1,16 @@
--- `steps_planned` is `stepsPrepared`: each return is one case of 24, 23, 22 and the row's replies taken.
+-- `steps_planned` is `steps_prepared`: each return is one case of 24, 23, 22 and the row's replies taken.
 use mathlib.Core.Path.{◌≡◌, ap, subst}
 use mathlib.Core.Logic.{inr}
 use mathlib.Core.Bool.{true, false}
 use borrow.Author.Rules.{rules}
-use Rattle.base.specs.Refusals.{notRefused}
-use Rattle.walk.specs.model.Sums.{planBy}
+use Rattle.base.specs.Refusals.{not_refused}
+use Rattle.walk.specs.model.Sums.{plan_by}
 use Rattle.calls.specs.Fit.{fits}
 use Rattle.calls.specs.declared.operations.Operation.{Operation}
-use Rattle.step.proofs.PlanLaws.{prepared-planned}
-use Rattle.step.proofs.Search.{unfit-by, alive-by}
+use Rattle.step.proofs.PlanLaws.{prepared_planned}
+use Rattle.step.proofs.Search.{unfit_by, alive_by}
 use Rattle.row.specs.model.Words.{Answered, ReadAs}
-use Rattle.whole_run.proofs.SeveralReplies.{steps-by, grounds-here, steps-24, steps-23, steps-22, last-asked, steps-taken}
+use Rattle.whole_run.proofs.SeveralReplies.{steps_by, grounds_here, steps_24, steps_23, steps_22, last_asked, steps_taken}
 use Rattle.whole_run.proofs.several.steps_planned.Statement.{statement}
 use Rattle.whole_run.proofs.several.steps_planned.Tie as tie
 
@@ -22,8 +22,8 @@ module _ (a : tie.After-enum-told) where
   waits : start.args.r.ended ≡ false
   waits = a.before.before.before.before.if1.left
 
-  fit : fits (planBy start.args.list.now start.args.plan.sizes) start.args.r ≡ true
-  fit = (alive-by a.enum_told.given.1 a.before.before.record-fits.ensures).fit
+  fit : fits (plan_by start.args.list.now start.args.plan.sizes) start.args.r ≡ true
+  fit = (alive_by a.enum_told.given.1 a.before.before.record-fits.ensures).fit
 
 -- and a row that is formed
 answered : (a : tie.After-read) → Answered (start a.before.before.before).args.row.now a.read.given.0.0
@@ -36,10 +36,10 @@ returns : tie.Need-returns
 returns c =
     let start = c.before.before.before.before.before.before.before in
     let over : start.args.r.ended ≡ true = search rules in
-    steps-by _ _ _ _ _ _ _ _ c.refuse-steps-by.ensures (steps-24 start.args.list.now start.args.incoming.now start.args.outgoing.now start.args.row.now start.args.r _ _ _ start.requires over)
+    steps_by _ _ _ _ _ _ _ _ c.refuse-steps-by.ensures (steps_24 start.args.list.now start.args.incoming.now start.args.outgoing.now start.args.row.now start.args.r _ _ _ start.requires over)
 
 record-fits-requires : tie.Need-record-fits-requires
-record-fits-requires c κs = prepared-planned _ _ _ _ _ _ c.before.before.before.before.before.before.before.requires
+record-fits-requires c κs = prepared_planned _ _ _ _ _ _ c.before.before.before.before.before.before.before.requires
 
 enum_told : tie.Need-enum-told
 enum_told c = search rules
@@ -53,9 +53,9 @@ refuse-steps-by-requires-2 c κs = search rules
 returns-2 : tie.Need-returns-2
 returns-2 c =
     let start = c.before.before.before.before.before.before.before.before.before.before.before in
-    steps-by _ _ _ _ _ _ _ _ c.refuse-steps-by2.ensures
-    (steps-23 start.args.list.now start.args.incoming.now start.args.outgoing.now start.args.row.now start.args.r _ _ _ start.requires c.before.before.before.before.before.if1.false
-    (unfit-by _ _ c.before.enum-told2.given.1 c.before.before.before.record-fits.ensures))
+    steps_by _ _ _ _ _ _ _ _ c.refuse-steps-by2.ensures
+    (steps_23 start.args.list.now start.args.incoming.now start.args.outgoing.now start.args.row.now start.args.r _ _ _ start.requires c.before.before.before.before.before.if1.false
+    (unfit_by _ _ c.before.enum-told2.given.1 c.before.before.before.record-fits.ensures))
 
 read-row-requires : tie.Need-read-row-requires
 read-row-requires c κs = search rules
@@ -72,19 +72,19 @@ refuse-steps-by-requires-3 c κs = search rules
 returns-3 : tie.Need-returns-3
 returns-3 c =
     let a = c.before.before.before.before in let s = start a in
-    steps-by _ _ _ _ _ _ _ _ c.refuse-steps-by3.ensures
-    (steps-22 s.args.list.now s.args.incoming.now s.args.outgoing.now s.args.row.now s.args.r _ _ _ s.pre (waits a) (fit a)
+    steps_by _ _ _ _ _ _ _ _ c.refuse-steps-by3.ensures
+    (steps_22 s.args.list.now s.args.incoming.now s.args.outgoing.now s.args.row.now s.args.r _ _ _ s.pre (waits a) (fit a)
     (subst (ReadAs s.args.row.now) c.before.enum-told3.given.1 c.before.before.before.read-row.ensures))
 
 run-replies-requires : tie.Need-run-replies-requires
 run-replies-requires c κs =
     let a = c.before.before.before.before.before in let s = start a in
-    (grounds-here s.args.list.now s.args.incoming.now s.args.outgoing.now s.args.row.now s.args.r _ _ _ s.pre, (inr (fit a), answered c.before.before))
+    (grounds_here s.args.list.now s.args.incoming.now s.args.outgoing.now s.args.row.now s.args.r _ _ _ s.pre, (inr (fit a), answered c.before.before))
 
 wanted-at-requires : tie.Need-wanted-at-requires
 wanted-at-requires c κs =
     let a = c.before.before.before.before.before.before.before.before.before in let s = start a in
-    last-asked s.args.list.now s.args.incoming.now s.args.outgoing.now s.args.row.now s.args.r _ _ _ s.pre (waits a) (fit a)
+    last_asked s.args.list.now s.args.incoming.now s.args.outgoing.now s.args.row.now s.args.r _ _ _ s.pre (waits a) (fit a)
     (answered c.before.before.before.before.before.before).formed _ _ _ c.before.before.before.run-replies.ensures
 
 same_length : tie.Need-same-length
@@ -93,9 +93,9 @@ same_length c = search rules
 returns-4 : tie.Need-returns-4
 returns-4 c =
     let a = c.before.before.before.before.before.before.before.before.before.before in let s = start a in let v = c.before.before.before.before.run-replies.result in
-    steps-by _ _ _ _ _ _ _ _
-    (ap (λ (w : Operation). record { refusal = notRefused; taken = v.taken; run = v.run; wanted = w }) c.wanted-at.ensures)
-    (steps-taken s.args.list.now s.args.incoming.now s.args.outgoing.now s.args.row.now s.args.r _ _ _ s.pre (waits a) (fit a)
+    steps_by _ _ _ _ _ _ _ _
+    (ap (λ (w : Operation). record { refusal = not_refused; taken = v.taken; run = v.run; wanted = w }) c.wanted-at.ensures)
+    (steps_taken s.args.list.now s.args.incoming.now s.args.outgoing.now s.args.row.now s.args.r _ _ _ s.pre (waits a) (fit a)
     (answered c.before.before.before.before.before.before.before).formed _ _ _ c.before.before.before.before.run-replies.ensures)
 
 pub steps-planned-spec : {M : Type 1} → statement M

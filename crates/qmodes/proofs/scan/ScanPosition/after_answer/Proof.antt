@@ -1,4 +1,4 @@
--- `after_answer` is `afterAnswer`: each branch is a call of the definition's case.
+-- `after_answer` is `after_answer`: each branch is a call of the definition's case.
 use borrow.Author.Rules.{rules}
 use Rattle.qmodes.proofs.scan.ScanPosition.after_answer.Statement.{statement}
 use Rattle.qmodes.proofs.scan.ScanPosition.after_answer.Tie as tie
