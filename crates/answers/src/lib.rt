@@ -1,5 +1,7 @@
 // The answers of one instruction: words, which move, and waits. Clean and flagged answers are judged alike, by a mask of flags; position, tries,
 // words left, marks and note follow from how many there are.
+#![tactic(auto)]
+
 ghost use Rattle.std.specs.Prelude.{◌≡◌, true, false, ◌+◌, ◌*◌, ◌%◌, ◌^◌, ◌<◌, ◌≤◌, eqb, length};
 ghost use Rattle.std.specs.Int.Bits.{bit_and};
 ghost use Rattle.qmodes.specs.model.Answers.{words_ahead};
@@ -16,7 +18,7 @@ use reply::Note;
 use row::{is_word_at, pass_words, read_word, read_words};
 
 // What an instruction decides for its answers: how its words move, and the flags that make an answer a word or, where it is none, no cause.
-#[derive(Drop)]
+#[derive(Clone, Copy)]
 pub struct Rules {
     pub q: QMode,
     pub direction: Direction,
@@ -27,7 +29,7 @@ pub struct Rules {
 
 // Where a run stands at an instruction: replies taken, words left, tries, position as N * 16 + A, marks and note. No words left: it is
 // through. Operations are the replies taken, and status is what their flags gathered.
-#[derive(Drop)]
+#[derive(Clone, Copy)]
 pub struct Stay {
     pub taken: usize,
     pub left: usize,

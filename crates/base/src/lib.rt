@@ -1,4 +1,6 @@
 // What every crate uses: a refusal, casts, little-endian numbers in a row of bytes.
+#![tactic(auto)]
+
 pub mod bytes;
 pub mod numbers;
 
@@ -8,7 +10,7 @@ pub use bytes::{
 pub use numbers::{least, less, u32_of, u64_of, u64_of_size, usize_of, usize_of_short};
 
 // A refusal's number and place; number 0: not refused.
-#[derive(Drop)]
+#[derive(Clone, Copy)]
 pub struct Refusal {
     pub number: u8,
     pub place: usize,

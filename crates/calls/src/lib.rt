@@ -1,4 +1,6 @@
 // What the calls answer: fit, the operation wanted next, the last moved word.
+#![tactic(auto)]
+
 pub mod fit;
 pub mod last;
 pub mod operations;
@@ -17,7 +19,7 @@ pub const UNFIT: u8 = 23;
 pub const NOT_FORMED: u8 = 22;
 
 // What start and step yield beside the buffers.
-#[derive(Drop)]
+#[derive(Clone, Copy)]
 pub struct Yield {
     pub refusal: Refusal,
     pub run: Record,
@@ -25,7 +27,7 @@ pub struct Yield {
 }
 
 // What a whole run yields beside the incoming buffer.
-#[derive(Drop)]
+#[derive(Clone, Copy)]
 pub struct Ran {
     pub refusal: Refusal,
     pub taken: usize,
@@ -33,7 +35,7 @@ pub struct Ran {
 }
 
 // What several replies from a record on yield beside the buffers.
-#[derive(Drop)]
+#[derive(Clone, Copy)]
 pub struct Stepped {
     pub refusal: Refusal,
     pub taken: usize,

@@ -6,7 +6,7 @@ use camac::{Command, Direction, Transfer};
 use reply::Record;
 
 // The operation wanted next: crate, N, A, F, data, and whether it is enhanced; all zero where none is.
-#[derive(Drop)]
+#[derive(Clone, Copy)]
 pub struct Operation {
     pub crate_number: u8,
     pub station: u8,

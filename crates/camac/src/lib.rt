@@ -1,4 +1,6 @@
 // CAMAC words: the decode of an instruction's longwords, what a few of their bits say, the names of the error codes.
+#![tactic(auto)]
+
 pub mod bits;
 pub mod names;
 pub mod words;

@@ -6,7 +6,7 @@ ghost use Rattle.camac.specs.Words.{mode_in, qmode_bits, qmode_numbered, qmode_i
 use crate::bits::{has_ad, is_scan_block, is_sequencer, is_wide, mode_in, start_in, words_in};
 use qmodes::{QMode, ScanPosition, is_scan};
 
-#[derive(Drop)]
+#[derive(Clone, Copy)]
 pub struct Address {
     pub crate_number: u8,
     pub station: u8,
@@ -16,7 +16,7 @@ pub struct Address {
 
 // A CAMAC instruction's transfer mode, which holds its Q-mode and its address; a block, enhanced or not, also its words wanted, an inline
 // write its data. A list sequencer is an enhanced block in ignore.
-#[derive(Drop)]
+#[derive(Clone, Copy)]
 pub enum Transfer {
     Single(QMode, Address),
     Block(QMode, Address, u64),
@@ -25,7 +25,7 @@ pub enum Transfer {
 }
 
 // A CAMAC instruction: its transfer, whether its words are of 24 bits, and AD, abort disable.
-#[derive(Drop)]
+#[derive(Clone, Copy)]
 pub struct Command {
     pub transfer: Transfer,
     pub wide: bool,
@@ -33,7 +33,7 @@ pub struct Command {
 }
 
 // Which buffer the words of an instruction go through.
-#[derive(Drop)]
+#[derive(Clone, Copy)]
 pub enum Direction {
     Incoming,
     Outgoing,
@@ -41,7 +41,7 @@ pub enum Direction {
 }
 
 // What a CAMAC field's body decodes to: the instruction, or the number of its refusal.
-#[derive(Drop)]
+#[derive(Clone, Copy)]
 pub enum Decoded {
     Carried(Command),
     Refused(u8),

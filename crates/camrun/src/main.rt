@@ -1,5 +1,7 @@
 // camrun: admits run.lst, runs it over the replies of run.rep with the outgoing words of run.out, and prints what happened. Each file is
 // read up to 65,536 bytes; a missing one is empty. The incoming buffer is 65,536 zero bytes.
+#![tactic(auto)]
+
 ghost use Rattle.io.specs.Counts.{IsPrefixLen as CountsBytes};
 ghost use Rattle.calls.specs.Calls.{step_of, Yields};
 ghost use Rattle.reply.specs.Effect.{state_of};

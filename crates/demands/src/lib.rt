@@ -1,4 +1,6 @@
 // Demands kept beside the run: a queue of 2,048 in bytes that the host lends.
+#![tactic(auto)]
+
 pub mod adding;
 pub mod layout;
 pub mod taking;
@@ -12,28 +14,28 @@ use layout::{is_queue, set_waiting, waiting_in};
 use taking::take_oldest;
 
 // A crate's look-at-me: any SGL byte.
-#[derive(Drop)]
+#[derive(Clone, Copy)]
 pub struct Demand {
     pub crate_number: u8,
     pub sgl: u8,
 }
 
 // What a call answers: how many wait now, and whether one was dropped since the last clear; refused, zeros.
-#[derive(Drop)]
+#[derive(Clone, Copy)]
 pub struct Queued {
     pub refusal: Refusal,
     pub waiting: usize,
     pub overflow: bool,
 }
 
-#[derive(Drop)]
+#[derive(Clone, Copy)]
 pub enum Next {
     Nothing,
     Oldest(Demand),
 }
 
 // What taking answers.
-#[derive(Drop)]
+#[derive(Clone, Copy)]
 pub struct Taken {
     pub queued: Queued,
     pub next: Next,

@@ -1,5 +1,7 @@
 // explain: says in words what the list run.lst does and, over the replies of run.rep with the outgoing words of run.out, what its run does and how it
 // ends. Each file is read up to 65,536 bytes; a missing one is empty. The incoming buffer is 65,536 zero bytes.
+#![tactic(auto)]
+
 mod ending;
 mod fields;
 mod operations;

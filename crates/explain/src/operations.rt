@@ -12,7 +12,7 @@ const MOST: u64 = 65536;
 
 // An operation and its reply: the operation's number and instruction; the reply's kind, flags and data; whether a word was moved, behind a pad or not,
 // its first byte and its last; the code with which the run ended there, 0 where it did not or by a halt.
-#[derive(Drop)]
+#[derive(Clone, Copy)]
 pub(crate) struct Event {
     pub number: u64,
     pub instruction: usize,
@@ -28,7 +28,7 @@ pub(crate) struct Event {
 }
 
 // Operations in a row with like replies: the first and the last of them; `count` is 0 for none, 1 for one, 2 for several.
-#[derive(Drop)]
+#[derive(Clone, Copy)]
 pub(crate) struct Stretch {
     pub count: u8,
     pub first: Event,

@@ -9,7 +9,7 @@ use reply::{Formed, Record};
 use walk::Counts;
 
 // Where a run came to, the operation that it wants next, and its last operations, which are not printed yet.
-#[derive(Drop)]
+#[derive(Clone, Copy)]
 struct Told {
     ended: bool,
     run: Record,

@@ -8,35 +8,35 @@ use crate::reader::read_at;
 use base::Refusal;
 
 // The number of instructions, and a number above the target of each jump.
-#[derive(Drop)]
+#[derive(Clone, Copy)]
 pub struct Extent {
     pub count: usize,
     pub furthest: usize,
 }
 
 // What the pass over the fields finds: the first refusal with its place, or how far they reach.
-#[derive(Drop)]
+#[derive(Clone, Copy)]
 pub enum Pass {
     Refused(Refusal),
     Through(Extent),
 }
 
 // The first jump whose target is no instruction.
-#[derive(Drop)]
+#[derive(Clone, Copy)]
 pub enum Jumps {
     BadAt(usize),
     Right,
 }
 
 // The number of instructions, and R.
-#[derive(Drop)]
+#[derive(Clone, Copy)]
 pub struct Sizes {
     pub count: usize,
     pub limit: usize,
 }
 
 // What the checks 1 to 10 find.
-#[derive(Drop)]
+#[derive(Clone, Copy)]
 pub enum Checked {
     Refused(Refusal),
     Passed(Sizes),

@@ -5,7 +5,7 @@ ghost use Rattle.listfile.specs.model.Table.{instruction_at, read_by};
 
 use camac::{Command, Decoded};
 
-#[derive(Drop)]
+#[derive(Clone, Copy)]
 pub enum Instruction {
     Camac(Command),
     Jump(u16),
@@ -16,7 +16,7 @@ pub enum Instruction {
 const MOST_INSTRUCTIONS: usize = 4096;
 
 // What a field's tag byte says.
-#[derive(Drop)]
+#[derive(Clone, Copy)]
 pub enum Tag {
     CamacTag,
     JumpTag,
@@ -26,7 +26,7 @@ pub enum Tag {
 }
 
 // What a field is read as: its instruction, or the number of its refusal.
-#[derive(Drop)]
+#[derive(Clone, Copy)]
 pub enum FieldRead {
     Read(Instruction),
     Refused(u8),

@@ -1,4 +1,6 @@
 // The list file: its fields front to back, refusals 1 to 10, the instruction of a field and its parts.
+#![tactic(auto)]
+
 pub mod check;
 pub mod field;
 pub mod parts;

@@ -5,7 +5,7 @@ ghost use Rattle.listfile.specs.Fields.{place_after, field_of};
 use crate::field::{FieldRead, field_at, is_past, place_after};
 
 // A list and the place of its next field, kept together.
-#[derive(Drop)]
+#[derive(Clone, Copy)]
 pub struct Reader<'a> {
     pub list: &'a [u8],
     pub at: usize,

@@ -1,11 +1,13 @@
 // Packing: fill marks, and the bytes of words and literals in the host's buffers.
+#![tactic(auto)]
+
 ghost use Rattle.std.specs.Prelude.{◌≡◌, true, ◌+◌, ◌%◌, ◌^◌, ◌<◌, ◌≤◌, length};
 ghost use Rattle.std.proofs.lemmas.List.Edits.{sets};
 ghost use Rattle.base.specs.Bytes.{long_bytes};
 ghost use Rattle.packing.specs.Packing.{aligned_mark, width_of, mark_after, mark_after_words, stored, word_at};
 
 // The two fill marks: the bytes used so far of the incoming and of the outgoing buffer.
-#[derive(Drop)]
+#[derive(Clone, Copy)]
 pub struct Marks {
     pub incoming: usize,
     pub outgoing: usize,

@@ -1,4 +1,6 @@
 // What each Q-mode does with an answer, and scan positions.
+#![tactic(auto)]
+
 pub mod modes;
 pub mod scan;
 

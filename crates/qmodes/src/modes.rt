@@ -7,7 +7,7 @@ ghost use Rattle.qmodes.specs.model.Answers.{word_flags, wait_flags, can_wait, w
 
 use crate::scan::{Moved, ScanPosition};
 
-#[derive(Drop)]
+#[derive(Clone, Copy)]
 pub enum QMode {
     Stop,
     Ignore,
@@ -16,7 +16,7 @@ pub enum QMode {
 }
 
 // An answer's flags and data.
-#[derive(Drop)]
+#[derive(Clone, Copy)]
 pub struct Answer {
     pub q: bool,
     pub x: bool,

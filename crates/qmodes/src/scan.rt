@@ -3,14 +3,14 @@ ghost use Rattle.std.specs.Prelude.{◌≡◌};
 ghost use Rattle.qmodes.specs.Scan.{stations, positions, after_other, after_done, after_answer};
 ghost use Rattle.qmodes.specs.Modes.{done};
 
-#[derive(Drop)]
+#[derive(Clone, Copy)]
 pub struct ScanPosition {
     pub station: u8,
     pub subaddress: u8,
 }
 
 // A scan's next position, or that it ran off station 23.
-#[derive(Drop)]
+#[derive(Clone, Copy)]
 pub enum Moved {
     At(ScanPosition),
     RanOff,

@@ -1,4 +1,6 @@
 // One operation, one reply: replies, what ends a run, the status word, the record of a run and its changes.
+#![tactic(auto)]
+
 pub mod causes;
 pub mod records;
 pub mod replies;

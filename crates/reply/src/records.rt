@@ -11,7 +11,7 @@ use qmodes::ScanPosition;
 use walk::Spot;
 
 // The last word moved: its buffer (0 incoming, 1 outgoing), offset and length; zeros before any.
-#[derive(Drop)]
+#[derive(Clone, Copy)]
 pub struct Note {
     pub buffer: u8,
     pub offset: usize,
@@ -20,7 +20,7 @@ pub struct Note {
 
 // A run's record: ended, instruction (its spot), words left, tries made, current N and A, both marks, operations, status, note. The small
 // ones stand last, so that a copy has no gaps.
-#[derive(Drop)]
+#[derive(Clone, Copy)]
 pub struct Record {
     pub spot: Spot,
     pub left: usize,

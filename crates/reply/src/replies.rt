@@ -11,7 +11,7 @@ pub const X_BIT: u32 = 1 << 30;
 
 pub const Q_BIT: u32 = 1 << 31;
 
-#[derive(Drop)]
+#[derive(Clone, Copy)]
 pub enum Reply {
     Answered(Answer),
     Timeout,
@@ -20,7 +20,7 @@ pub enum Reply {
 }
 
 // What eight bytes are: a reply, or not formed as one.
-#[derive(Drop)]
+#[derive(Clone, Copy)]
 pub enum Formed {
     Reply(Reply),
     NotFormed,

@@ -1,4 +1,6 @@
 // A row of replies: its form, the answers that come first, the words among them, their bytes and their status bits.
+#![tactic(auto)]
+
 pub mod reading;
 pub mod tops;
 pub mod words;

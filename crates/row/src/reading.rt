@@ -5,7 +5,7 @@ ghost use Rattle.base.specs.Checks.{if◌then◌else◌};
 ghost use Rattle.row.specs.model.Words.{ReadAs, StretchReadAs, BitsOver, gathered_bits, raised_over, raised_bits};
 
 // What a row is: not formed, or formed, with a number of answers before any reply of another kind.
-#[derive(Drop)]
+#[derive(Clone, Copy)]
 pub enum RowRead {
     NotFormed,
     Answers(usize),

@@ -132,7 +132,7 @@ fn read_wide(
 }
 
 // Words read: how many, and the mark behind them.
-#[derive(Drop)]
+#[derive(Clone, Copy)]
 pub struct WordsRead {
     pub words: usize,
     pub mark: usize,

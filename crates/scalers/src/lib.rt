@@ -1,4 +1,6 @@
 // Decimal scalers: a row of stored longwords converted to binary, and back.
+#![tactic(auto)]
+
 pub mod longwords;
 pub mod rows;
 

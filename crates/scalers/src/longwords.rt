@@ -3,7 +3,7 @@ ghost use Rattle.std.specs.Prelude.{◌≡◌, false};
 ghost use Rattle.scalers.specs.Scalers.{is_bad, converted_to};
 
 // Which way a row is converted.
-#[derive(Drop)]
+#[derive(Clone, Copy)]
 pub enum Way {
     ToBinary,
     ToDecimal,

@@ -6,7 +6,7 @@ use crate::longwords::{Way, converted, is_bad};
 use base::Refusal;
 
 // Whether every longword passes, or where the first is that does not.
-#[derive(Drop)]
+#[derive(Clone, Copy)]
 pub enum Checked {
     Passes,
     Bad(usize),

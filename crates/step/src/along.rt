@@ -14,7 +14,7 @@ use take::{Advance, Taken};
 use walk::Spot;
 
 // Where a run comes to along the walk: its record, and the instruction at which it waits or has ended.
-#[derive(Drop)]
+#[derive(Clone, Copy)]
 pub struct Arrival {
     pub run: Record,
     pub instruction: Instruction,

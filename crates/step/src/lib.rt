@@ -1,4 +1,6 @@
 // The calls: start and step.
+#![tactic(auto)]
+
 pub mod along;
 pub mod place;
 
@@ -123,7 +125,7 @@ pub fn step(list: &[u8], r: Record, incoming: &mut [u8], outgoing: &[u8], reply:
 }
 
 // What a step answers beside the record and the buffers lent to it.
-#[derive(Drop)]
+#[derive(Clone, Copy)]
 pub struct Answered {
     pub refusal: Refusal,
     pub wanted: Operation,

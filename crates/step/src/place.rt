@@ -14,14 +14,14 @@ use reply::Record;
 use walk::{Counts, Planned, Spot, Turn};
 
 // A CAMAC instruction of the walk with the sums before it and the worst count after it, or none at that spot.
-#[derive(Drop)]
+#[derive(Clone, Copy)]
 pub enum Found {
     Here(Command, Counts, u64),
     Missing,
 }
 
 // Whether a record fits: it waits at a CAMAC instruction, or it is unfit.
-#[derive(Drop)]
+#[derive(Clone, Copy)]
 pub enum Fitting {
     Waits(Command),
     Unfit,

@@ -1,4 +1,6 @@
 // One reply at one operation, one visit of the walk.
+#![tactic(auto)]
+
 ghost use Rattle.std.specs.Prelude.{◌≡◌, ◌^◌, ◌<◌, ◌≤◌, length};
 ghost use Rattle.reply.specs.Causes.{code_of};
 ghost use Rattle.reply.specs.Effect.{ended_at, longword_of, moved_bytes};
@@ -17,7 +19,7 @@ use walk::Spot;
 const WORD_END: u32 = 1 << 24;
 
 // What a reply leaves: the same operation waits on, it is through, or the run has ended.
-#[derive(Drop)]
+#[derive(Clone, Copy)]
 pub enum Taken {
     Same(Record),
     Through(Record),
@@ -25,7 +27,7 @@ pub enum Taken {
 }
 
 // Where a run stands after an instruction: it goes on at another, or it waits here or has ended.
-#[derive(Drop)]
+#[derive(Clone, Copy)]
 pub enum Advance {
     On(Spot, Record),
     At(Record),

@@ -9,7 +9,7 @@ ghost use Rattle.walk.specs.model.Sums.{SumsTo, added_by, after_command};
 use camac::{Command, Direction};
 
 // W, B and O: the worst count, and the incoming and the outgoing mark after every word of the walk.
-#[derive(Drop)]
+#[derive(Clone, Copy)]
 pub struct Counts {
     pub worst: u64,
     pub incoming: u64,

@@ -23,7 +23,7 @@ const JUMP: u8 = 0x20;
 const HALT: u8 = 0x2F;
 
 // Where a run comes to along the walk: the halt, or a CAMAC instruction with its first longword and the words it wants.
-#[derive(Drop)]
+#[derive(Clone, Copy)]
 pub struct Reached {
     pub spot: Spot,
     pub marks: Marks,
@@ -33,7 +33,7 @@ pub struct Reached {
 }
 
 // Where a run stops: at a reply that is neither a word nor a wait, at the end of the answers, or at the halt.
-#[derive(Drop)]
+#[derive(Clone, Copy)]
 pub struct Stop {
     pub spot: Spot,
     pub stay: Stay,

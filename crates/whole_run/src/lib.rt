@@ -1,5 +1,7 @@
 // The whole run over a row of replies: the row is read once, words and waits are passed along the walk by one loop, and every other reply goes
 // through the function that a step uses.
+#![tactic(auto)]
+
 pub mod along;
 pub mod several;
 
@@ -23,7 +25,7 @@ pub use several::steps;
 use walk::Preparation;
 
 // A record with the number of replies taken.
-#[derive(Drop)]
+#[derive(Clone, Copy)]
 pub struct Passage {
     pub run: Record,
     pub taken: usize,

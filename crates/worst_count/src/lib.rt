@@ -1,1 +1,2 @@
 // The theorems over the definitions.
+#![tactic(auto)]
