@@ -261,10 +261,10 @@ self-meets {𝓤 = 𝓤} 𝓛 mem run 𝓣 known =
     (Goes-none_slice 𝓛 4 (0 ∷ []) tt (plain (λ _. u8)) yes, (Goes-none 𝓛 4 (λ _. R) yes (λ κs x f. refl), (Goes-gave_slice 𝓛 4 1 tt (plain (λ _. u8)), (Goes-none_slice 𝓛 4 (2 ∷ []) tt (plain (λ _. u8)) yes, (Goes-none_slice 𝓛 4 (3 ∷ []) tt (plain (λ _. u8)) yes, tt)))))
     (self.clauses 𝓛 mem run) (WpFn 𝓤 𝓛.H 𝓣.C 𝓣.Λ code.function) (WpFn-mono 𝓤 𝓛.H 𝓛.laws 𝓣 code.function) (self-walks 𝓛 mem run 𝓣.C 𝓣.Λ (fm_of 𝓤 𝓛.H 𝓛.laws 𝓣) known)
 
-pub take-reply-spec : {M : Type 1} → stated.statement M
+pub take_reply_spec : {M : Type 1} → stated.statement M
 unfolding code.routine tables_of
-take-reply-spec 𝓤 𝓛 𝓜 𝓡 =
+take_reply_spec 𝓤 𝓛 𝓜 𝓡 =
     entered 𝓤 𝓛.H (triple_of 𝓛 self.signature (self.spec 𝓛 𝓜.mem 𝓡.run))
     (tables 𝓤 𝓛.H 𝓜 𝓡 code.env).C (tables 𝓤 𝓛.H 𝓜 𝓡 code.env).Λ #camrun·take-reply code.function (code.unfolded 𝓤 𝓛.H 𝓜 𝓡)
     (self-meets 𝓛 𝓜.mem 𝓡.run (tables_of 𝓤 𝓛.H 𝓜 (tables 𝓤 𝓛.H 𝓜 𝓡 code.env))
-    (cited 𝓤 𝓛.H (InPlace 𝓛 𝓜.mem 𝓡.run) 𝓜 𝓡 code.env #step·step-in-place callee-def.routine code.calls-step::step-in-place (callee-thm.met 𝓤 𝓛 𝓜 𝓡)))
+    (cited 𝓤 𝓛.H (InPlace 𝓛 𝓜.mem 𝓡.run) 𝓜 𝓡 code.env #step·step-in-place callee-def.routine code.calls-step::step_in_place (callee-thm.met 𝓤 𝓛 𝓜 𝓡)))

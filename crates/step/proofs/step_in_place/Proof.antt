@@ -238,9 +238,9 @@ self-meets {𝓤 = 𝓤} 𝓛 mem run 𝓣 known =
     (Goes-none_slice 𝓛 5 (0 ∷ []) tt (plain (λ _. u8)) yes, (Goes-ref 𝓛 5 1 tt (plain (λ _. R)), (Goes-gave_slice 𝓛 5 2 tt (plain (λ _. u8)), (Goes-none_slice 𝓛 5 (3 ∷ []) tt (plain (λ _. u8)) yes, (Goes-none_slice 𝓛 5 (4 ∷ []) tt (plain (λ _. u8)) yes, tt)))))
     (self.clauses 𝓛 mem run) (WpFn 𝓤 𝓛.H 𝓣.C 𝓣.Λ code.function) (WpFn-mono 𝓤 𝓛.H 𝓛.laws 𝓣 code.function) (self-walks 𝓛 mem run 𝓣.C 𝓣.Λ (fm_of 𝓤 𝓛.H 𝓛.laws 𝓣) known)
 
-pub step-in-place-spec : {M : Type 1} → stated.statement M
+pub step_in_place_spec : {M : Type 1} → stated.statement M
 unfolding code.routine tables_of
-step-in-place-spec 𝓤 𝓛 𝓜 𝓡 =
+step_in_place_spec 𝓤 𝓛 𝓜 𝓡 =
     entered 𝓤 𝓛.H (triple_of 𝓛 self.signature (self.spec 𝓛 𝓜.mem 𝓡.run))
     (tables 𝓤 𝓛.H 𝓜 𝓡 code.env).C (tables 𝓤 𝓛.H 𝓜 𝓡 code.env).Λ #step·step-in-place code.function (code.unfolded 𝓤 𝓛.H 𝓜 𝓡)
     (self-meets 𝓛 𝓜.mem 𝓡.run (tables_of 𝓤 𝓛.H 𝓜 (tables 𝓤 𝓛.H 𝓜 𝓡 code.env))

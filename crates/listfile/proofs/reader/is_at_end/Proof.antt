@@ -152,10 +152,10 @@ at-end-meets {𝓤 = 𝓤} 𝓛 mem run 𝓣 known =
     walk_Meets 𝓛 at_end.ended stayed (Goes-none 𝓛 1 B yes (λ κs x f. refl), tt) (at_end.clauses 𝓛 mem run) (WpFn 𝓤 𝓛.H 𝓣.C 𝓣.Λ code.function) (WpFn-mono 𝓤 𝓛.H 𝓛.laws 𝓣 code.function)
     (at-end-walks 𝓛 mem run 𝓣.C 𝓣.Λ (fm_of 𝓤 𝓛.H 𝓛.laws 𝓣) known)
 
-pub is-at-end-spec : {M : Type 1} → stated.statement M
+pub is_at_end_spec : {M : Type 1} → stated.statement M
 unfolding code.routine tables_of
-is-at-end-spec 𝓤 𝓛 𝓜 𝓡 =
+is_at_end_spec 𝓤 𝓛 𝓜 𝓡 =
     entered 𝓤 𝓛.H (triple_of 𝓛 at_end.signature (at_end.spec 𝓛 𝓜.mem 𝓡.run))
     (tables 𝓤 𝓛.H 𝓜 𝓡 code.env).C (tables 𝓤 𝓛.H 𝓜 𝓡 code.env).Λ #listfile·is-at-end code.function (code.unfolded 𝓤 𝓛.H 𝓜 𝓡)
     (at-end-meets 𝓛 𝓜.mem 𝓡.run (tables_of 𝓤 𝓛.H 𝓜 (tables 𝓤 𝓛.H 𝓜 𝓡 code.env))
-    (cited 𝓤 𝓛.H (IsPast 𝓛 𝓜.mem 𝓡.run) 𝓜 𝓡 code.env #listfile·is-past is-past-def.routine code.calls-listfile::field::is-past (is-past-thm.met 𝓤 𝓛 𝓜 𝓡)))
+    (cited 𝓤 𝓛.H (IsPast 𝓛 𝓜.mem 𝓡.run) 𝓜 𝓡 code.env #listfile·is-past is-past-def.routine code.calls-listfile::field::is_past (is-past-thm.met 𝓤 𝓛 𝓜 𝓡)))

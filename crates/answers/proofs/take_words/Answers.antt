@@ -1,0 +1,84 @@
+-- `take_words` counts the words of an instruction, stores those that are read, and goes behind them.
+use Prim.Native.Nat.{ℕ, ◌%◌}
+use mathlib.Core.Path.{◌≡◌, refl}
+use mathlib.Core.Bool.{true}
+use lib.Bits.{bit_and}
+use lib.Dec.{eqb}
+use native.Mathlib.Omega.{arith}
+use borrow.Author.Rules.{rules}
+use Rattle.row.specs.model.Words.{flags_at}
+use Rattle.row.proofs.WordLaws.{first_word}
+use Rattle.answers.specs.model.Visit.{Words}
+use Rattle.answers.proofs.VisitRoom.{ahead_most, read_in, bytes_by_lem, some_words, words_with, read_mark, marks_to}
+use Rattle.answers.proofs.take_words.Goals as goal
+
+-- the words that each arm counted
+abbrev Counted : tie.Start → ℕ → Type 0
+Counted s k = Words s.args.rules s.args.row.now s.args.answers s.args.here k
+
+first : (s : tie.Start) → eqb (bit_and (flags_at s.args.row.now s.args.here.taken) s.args.rules.word) (s.args.rules.word % 4) ≡ true
+first s = first_word s.args.rules.word s.args.row.now s.args.here.taken s.requires.1.are
+
+read : (c : tie.After-read_words) → Counted c.before.before.before.before.before.before.before c.read_words.result.words
+read c =
+    let p = c.before.before.before.before.before.before.before.requires in
+    let k = c.read_words.ensures in some_words _ _ _ _ _ _ p.2.1.0 p.2.1.1 k.0 k.1.0 k.1.1.0
+
+written : (c : tie.After-pass_words) → Counted c.before.before.before.before.before.before c.pass_words.result
+written c =
+    let s = c.before.before.before.before.before.before in
+    let k = c.pass_words.ensures in some_words _ _ _ _ _ _ s.requires.2.1.0 s.requires.2.1.1 (k.1.1 s.requires.2.0 (first s)) k.0 k.1.0
+
+passed : (c : tie.After-pass_words2) → Counted c.before.before.before.before.before.before c.pass_words2.result
+passed c =
+    let s = c.before.before.before.before.before.before in
+    let k = c.pass_words2.ensures in some_words _ _ _ _ _ _ s.requires.2.1.0 s.requires.2.1.1 (k.1.1 s.requires.2.0 (first s)) k.0 k.1.0
+
+pub read_words-read-requires : goal.read_words-read-requires
+read_words-read-requires c =
+    let p = c.requires in (
+      p.2.0,
+      (
+        omega (arith, p.2.1.1, p.0.within),
+        (read_in _ _ _ _ _ p.0 _ (omega (arith, p.2.1.0, ahead_most c.args.rules.q c.args.here.position c.args.here.left)) c.in-Incoming.is, (p.0.even.incoming, (p.0.row_formed, (p.1.are, p.3)))),
+      ),
+    )
+
+pub behind_words-requires : goal.behind_words-requires
+behind_words-requires c =
+    let p = c.requires in
+    words_with _ _ _ _ _ p.0 _ (read c) (omega (arith, p.0.taken, c.ranges))
+    (read_mark _ _ _ _ c.read_words-read.result.words c.in-Incoming.is c.read_words-read.ensures.1.1.1.1)
+
+pub after_words-requires : goal.after_words-requires
+after_words-requires c =
+    let p = c.requires in words_with _ _ _ _ _ p.0 _ (written c) (omega (arith, p.0.taken)) (marks_to _ _ _ _ _ p.0)
+
+pub after_words-requires-in-Neither : goal.after_words-requires-in-Neither
+after_words-requires-in-Neither c =
+    let p = c.requires in words_with _ _ _ _ _ p.0 _ (passed c) (omega (arith, p.0.taken)) (marks_to _ _ _ _ _ p.0)
+
+pub returns-in-Incoming : goal.returns-in-Incoming
+returns-in-Incoming c =
+    record {
+      count = c.read_words-read.result.words;
+      words = read c;
+      behind = c.behind_words.ensures;
+      bytes = bytes_by_lem _ _ _ _ _ _ _ c.in-Incoming.is c.read_words-read.ensures.1.1.1.0;
+    }
+
+pub returns-in-Outgoing : goal.returns-in-Outgoing
+returns-in-Outgoing c = record {
+  count = c.pass_words-words.result;
+  words = written c;
+  behind = c.after_words.ensures;
+  bytes = bytes_by_lem _ _ _ _ _ _ _ c.in-Outgoing.is refl;
+}
+
+pub returns-in-Neither : goal.returns-in-Neither
+returns-in-Neither c = record {
+  count = c.pass_words-words-in-Neither.result;
+  words = passed c;
+  behind = c.after_words-in-Neither.ensures;
+  bytes = bytes_by_lem _ _ _ _ _ _ _ c.in-Neither.is refl;
+}

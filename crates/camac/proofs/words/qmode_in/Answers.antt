@@ -1,0 +1,24 @@
+-- `qmode_in` is `qmode_in`: numbers 0, 1 and 2 are no list sequencer's, and 3 is one by the transfer mode.
+use mathlib.Core.Path.{◌≡◌}
+use mathlib.Core.Bool.{and-true, and-false}
+use native.Mathlib.Omega.{arith}
+use Rattle.camac.specs.Words.{qmode_bits}
+use Rattle.camac.proofs.Laws.{three}
+use Rattle.camac.proofs.words.qmode_in.Goals as goal
+
+third : (c : tie.After-third_qmode) → qmode_bits c.before.before.args.first ≡ 3
+third c =
+    let rest = c.before.match.rest in
+    three (qmode_bits c.before.before.args.first) (omega arith) rest.0.0.1 rest.0.1 rest.1
+
+pub returns-in-0 : goal.returns-in-0
+returns-in-0 c = simp (c.in-0.is, and-false)
+
+pub returns-in-1 : goal.returns-in-1
+returns-in-1 c = simp (c.in-1.is, and-false)
+
+pub returns-in-2 : goal.returns-in-2
+returns-in-2 c = simp (c.in-2.is, and-false)
+
+pub returns-in_default : goal.returns-in_default
+returns-in_default c = rw (third c, and-true) c.third_qmode.ensures

@@ -1,0 +1,10 @@
+-- Each visit adds at most 2^48 to each sum, and every instruction visited lies in the table. The measure is the visits left.
+use Prim.Native.Nat.{◌-◌, ◌*◌, ◌^◌, ◌≤◌}
+use Rattle.walk.specs.model.Sums.{SumsTo}
+use Rattle.explain.proofs.visits.print_walk.Given as goal
+
+abbrev pub invariant-loop-visits : goal.invariant-loop-visits
+invariant-loop-visits l = (l.sums ≤ l.count) × SumsTo (2 ^ 48 * l.sums) l.seen
+
+abbrev pub decreases-loop-visits : goal.decreases-loop-visits
+decreases-loop-visits l = l.count - l.sums

@@ -1,0 +1,12 @@
+-- `host::queue::camlist_demand_row_v2` meets its contract: its numbers are those of the answer, and the queue is that of the call.
+use mathlib.Core.Path.{ap, ◌∙◌}
+use Rattle.host.specs.Numbers.{queued_numbers}
+use Rattle.host.proofs.queue.camlist_demand_row_v2.Goals as goal
+
+pub returns : goal.returns
+returns c =
+    let called = c.add_row.ensures.answer in
+    record {
+  answer = c.queued_numbers.ensures ∙ ap queued_numbers called.0;
+  queue = called.1;
+}

@@ -1,0 +1,24 @@
+-- `tag_of` is `tag_of`, arm by arm.
+use borrow.Author.Tests.{ne_eqb}
+use Rattle.listfile.proofs.field.tag_of.Goals as goal
+
+pub returns-in-16 : goal.returns-in-16
+returns-in-16 c = simp c.in-16.is
+
+pub returns-in-32 : goal.returns-in-32
+returns-in-32 c = simp c.in-32.is
+
+pub returns-in-33 : goal.returns-in-33
+returns-in-33 c = simp c.in-33.is
+
+pub returns-in-47 : goal.returns-in-47
+returns-in-47 c = simp c.in-47.is
+
+pub returns-in_default : goal.returns-in_default
+returns-in_default c =
+    simp (
+      ne_eqb _ _ c.in_default.rest.0.0.0.1,
+      ne_eqb _ _ c.in_default.rest.0.0.1,
+      ne_eqb _ _ c.in_default.rest.0.1,
+      ne_eqb _ _ c.in_default.rest.1,
+    )

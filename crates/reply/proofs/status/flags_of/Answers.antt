@@ -1,0 +1,18 @@
+-- `flags_of` is `flags_of`, by the kind of the reply.
+use Rattle.reply.specs.Status.{flags_of}
+use Rattle.reply.proofs.status.flags_of.Goals as goal
+
+pub returns-in-Answered : goal.returns-in-Answered
+returns-in-Answered c = simp (c.answer_flags.ensures, c.in-Answered.is)
+
+pub returns-in-Timeout : goal.returns-in-Timeout
+unfolding flags_of
+returns-in-Timeout c = simp c.in-Timeout.is
+
+pub returns-in-NotRecognised : goal.returns-in-NotRecognised
+unfolding flags_of
+returns-in-NotRecognised c = simp c.in-NotRecognised.is
+
+pub returns-in-NoSync : goal.returns-in-NoSync
+unfolding flags_of
+returns-in-NoSync c = simp c.in-NoSync.is
