@@ -16,7 +16,7 @@ put_long-requires c =
       mark_wide m,
       aligned_above m,
       c.pad-to.ensures.0,
-      c.pad-to.auto.0,
+      c.pad-to.auto.buffer,
     )
 
 pub put_short-requires : goal.put_short-requires
