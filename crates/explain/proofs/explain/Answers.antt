@@ -6,4 +6,4 @@ use Rattle.explain.proofs.explain.Goals as goal
 pub print_walk-requires : goal.print_walk-requires
 print_walk-requires c =
     let passed = table_passed _ _ _ _ c.in-Passed.is c.check_list-checked.ensures.1 in
-    (omega (arith, passed.0, c.check_list-checked.auto.1.0), passed)
+    (omega (arith, passed.0, c.check_list-checked.auto.table), passed)

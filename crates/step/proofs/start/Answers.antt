@@ -12,7 +12,7 @@ returns-in_default c =
 
 pub run_on-first-requires : goal.run_on-first-requires
 run_on-first-requires c =
-    let x = prepared_ready _ _ _ _ c.prepare-prepared.ensures.0 _ c.prepare-prepared.ensures.1 _ c.in-Ready.is (λ i. omega (arith, c.shared_slice_known-1.given i)) c.prepare-prepared.auto.1.0 in (
+    let x = prepared_ready _ _ _ _ c.prepare-prepared.ensures.0 _ c.prepare-prepared.ensures.1 _ c.in-Ready.is (λ i. omega (arith, c.shared_slice_known-1.given i)) c.prepare-prepared.auto.table in (
       omega (arith, x.entries, x.planned.few),
       (
         x.planned.few,
@@ -25,12 +25,12 @@ run_on-first-requires c =
 
 pub yield_of-requires : goal.yield_of-requires
 yield_of-requires c =
-    let x = prepared_ready _ _ _ _ c.prepare-prepared.ensures.0 _ c.prepare-prepared.ensures.1 _ c.in-Ready.is (λ i. omega (arith, c.shared_slice_known-1.given i)) c.prepare-prepared.auto.1.0 in
+    let x = prepared_ready _ _ _ _ c.prepare-prepared.ensures.0 _ c.prepare-prepared.ensures.1 _ c.in-Ready.is (λ i. omega (arith, c.shared_slice_known-1.given i)) c.prepare-prepared.auto.table in
     start_asked _ _ _ _ _ c.args.outgoing.now x _ c.zero_record-zero.ensures _ _
     (λ out. rw c.first_spot.ensures at (c.run_on-first.ensures.0 out))
 
 pub returns : goal.returns
 returns c =
-    let x = prepared_ready _ _ _ _ c.prepare-prepared.ensures.0 _ c.prepare-prepared.ensures.1 _ c.in-Ready.is (λ i. omega (arith, c.shared_slice_known-1.given i)) c.prepare-prepared.auto.1.0 in
+    let x = prepared_ready _ _ _ _ c.prepare-prepared.ensures.0 _ c.prepare-prepared.ensures.1 _ c.in-Ready.is (λ i. omega (arith, c.shared_slice_known-1.given i)) c.prepare-prepared.auto.table in
     yields _ _ _ _ _ _ _ c.yield_of.ensures (start_yields _ _ _ _ _ _ x _ c.zero_record-zero.ensures _ _
     (λ out. rw c.first_spot.ensures at (c.run_on-first.ensures.0 out)))

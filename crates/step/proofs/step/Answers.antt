@@ -10,8 +10,8 @@ returns-in_default c =
 pub step_planned-requires : goal.step_planned-requires
 step_planned-requires c =
     prepared_ready _ _ _ _ c.prepare-prepared.ensures.0 _ c.prepare-prepared.ensures.1 _ c.in-Ready.is (λ i.
-    omega (arith, c.shared_slice_known-1.given i)) c.prepare-prepared.auto.1.0
+    omega (arith, c.shared_slice_known-1.given i)) c.prepare-prepared.auto.table
 
 pub returns : goal.returns
 returns c =
-    yields_by _ _ _ _ _ (step_prepared_lem _ _ _ _ _ _ (prepared_ready _ _ _ _ c.prepare-prepared.ensures.0 _ c.prepare-prepared.ensures.1 _ c.in-Ready.is (λ i. omega (arith, c.shared_slice_known-1.given i)) c.prepare-prepared.auto.1.0) _ _) c.step_planned.ensures
+    yields_by _ _ _ _ _ (step_prepared_lem _ _ _ _ _ _ (prepared_ready _ _ _ _ c.prepare-prepared.ensures.0 _ c.prepare-prepared.ensures.1 _ c.in-Ready.is (λ i. omega (arith, c.shared_slice_known-1.given i)) c.prepare-prepared.auto.table) _ _) c.step_planned.ensures

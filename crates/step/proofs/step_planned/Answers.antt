@@ -37,7 +37,7 @@ pub resume-next-requires : goal.resume-next-requires
 resume-next-requires c =
     let alive = alive_by c.in-Waits.is c.record_fits-fitting.ensures in
     let taken = took (sym c.reply_of-formed.ensures ∙ ap formed_by c.in-Reply.is) c.take_here-taken.ensures.record
-    c.take_here-taken.ensures.bytes c.take_here-taken.auto.1.1.1.1.0 in
+    c.take_here-taken.ensures.bytes c.take_here-taken.auto.incoming in
     let p = c.requires in
     let going = step_going _ _ _ _ c.args.incoming.now c.args.outgoing.now p _ c.args.reply.now c.if-r.false _ alive _ _ _ taken in
     (omega (arith, p.entries, p.planned.few), (p.planned.few, (p.planned.right, going)))
@@ -46,7 +46,7 @@ pub yield_of-requires : goal.yield_of-requires
 yield_of-requires c =
     let alive = alive_by c.in-Waits.is c.record_fits-fitting.ensures in
     let taken = took (sym c.reply_of-formed.ensures ∙ ap formed_by c.in-Reply.is) c.take_here-taken.ensures.record
-    c.take_here-taken.ensures.bytes c.take_here-taken.auto.1.1.1.1.0 in
+    c.take_here-taken.ensures.bytes c.take_here-taken.auto.incoming in
     step_asked _ _ _ _ c.args.incoming.now c.args.outgoing.now c.requires _ c.args.reply.now c.if-r.false _ alive _ _ _ taken _ _
     c.resume-next.ensures
 
@@ -54,7 +54,7 @@ pub returns : goal.returns
 returns c =
     let alive = alive_by c.in-Waits.is c.record_fits-fitting.ensures in
     let taken = took (sym c.reply_of-formed.ensures ∙ ap formed_by c.in-Reply.is) c.take_here-taken.ensures.record
-    c.take_here-taken.ensures.bytes c.take_here-taken.auto.1.1.1.1.0 in
+    c.take_here-taken.ensures.bytes c.take_here-taken.auto.incoming in
     yields _ _ _ _ _ _ _ c.yield_of.ensures
     (step_yields _ _ _ _ c.args.incoming.now c.args.outgoing.now c.requires _ c.args.reply.now c.if-r.false _ alive _ _ _ taken _ _
     c.resume-next.ensures)

@@ -10,7 +10,7 @@ returns-in_default c =
 pub walk-walked-requires : goal.walk-walked-requires
 walk-walked-requires c =
     let passed = table_passed _ _ _ _ c.in-Passed.is c.check_list-checked.ensures.1 in
-    (omega (arith, passed.0, c.check_list-checked.auto.1.0, c.requires), passed)
+    (omega (arith, passed.0, c.check_list-checked.auto.table, c.requires), passed)
 
 pub returns-in_default-walked : goal.returns-in_default-walked
 returns-in_default-walked c =

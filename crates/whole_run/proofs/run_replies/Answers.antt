@@ -33,7 +33,7 @@ record_of-r-requires c =
 
 pub shape_of-incoming-then-r : goal.shape_of-incoming-then-r
 shape_of-incoming-then-r c =
-    c.run_answers-stop.auto.1.1.1.1.1.0 ∙ c.loop-k.invariant.1
+    c.run_answers-stop.auto.incoming ∙ c.loop-k.invariant.1
 
 pub returns-then-r : goal.returns-then-r
 returns-then-r c =
@@ -51,7 +51,7 @@ pub take_other-here-requires : goal.take_other-here-requires
 take_other-here-requires c =
     let fewer : c.run_answers-stop.result.stay.taken ≡ length c.args.row.now / 8 → ⊥ = eqb-false _ _ c.if-stay-count.false in
     let m = moves_as _ _ c.record_of-r.ensures refl (moves_on _ _ c.loop-k.invariant.0 c.run_answers-stop.ensures.0) in (
-      grounds_at (c.run_answers-stop.auto.1.1.1.1.1.0 ∙ c.loop-k.invariant.1) c.requires.0,
+      grounds_at (c.run_answers-stop.auto.incoming ∙ c.loop-k.invariant.1) c.requires.0,
       ((m.formed, omega (arith, m.formed.within)), (m.stage, c.if-r.false)),
     )
 
@@ -66,7 +66,7 @@ pub loop-k-preserved : goal.loop-k-preserved
 loop-k-preserved c =
     let m = moves_as _ _ c.record_of-r.ensures refl (moves_on _ _ c.loop-k.invariant.0 c.run_answers-stop.ensures.0) in (
       moves_as _ _ refl (omega arith) (moves_on _ _ m c.take_other-here.ensures),
-      c.take_other-here.auto.1.1.1.1.0 ∙ (c.run_answers-stop.auto.1.1.1.1.1.0 ∙ c.loop-k.invariant.1),
+      c.take_other-here.auto.incoming ∙ (c.run_answers-stop.auto.incoming ∙ c.loop-k.invariant.1),
     )
 
 pub shape_of-incoming : goal.shape_of-incoming

@@ -51,12 +51,12 @@ run_on-first-requires c =
     )
 
 pub slice_bounds-run_replies-end : goal.slice_bounds-run_replies-end
-slice_bounds-run_replies-end c = omega (arith, c.prepare-prepared.auto.1.0)
+slice_bounds-run_replies-end c = omega (arith, c.prepare-prepared.auto.table)
 
 pub run_replies-v-requires : goal.run_replies-v-requires
 run_replies-v-requires c =
     (
-      grounds_at c.run_on-first.auto.1.1.1.1.1.0
+      grounds_at c.run_on-first.auto.incoming
           (grounds _ (start c).args.incoming.now (start c).args.outgoing.now (start c).args.row.now _ _ _ (ready c)),
       (
         start_stage _

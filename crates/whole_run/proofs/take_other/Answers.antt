@@ -42,7 +42,7 @@ resume-requires c =
         p.0.prepared.planned.few,
         (
           p.0.prepared.planned.right,
-          going _ _ _ _ p.0 _ _ al _ _ _ taken.1 _ taken.0 c.take_here-taken.auto.1.1.1.1.0,
+          going _ _ _ _ p.0 _ _ al _ _ _ taken.1 _ taken.0 c.take_here-taken.auto.incoming,
         ),
       ),
     )

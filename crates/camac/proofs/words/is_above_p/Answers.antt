@@ -2,4 +2,4 @@
 use Rattle.camac.proofs.words.is_above_p.Goals as goal
 
 pub returns : goal.returns
-returns c = rw (← c.words_in.ensures, ← c.start_in.ensures _, ← c.positions_left.ensures)
+returns c = rw (← c.words_in.ensures, ← c.start_in.ensures c.args.second, ← c.positions_left.ensures)

@@ -9,27 +9,19 @@ use Rattle.base.specs.Checks.{if◌then◌else◌}
 use Rattle.camac.specs.Words.{mode_in}
 use Rattle.camac.proofs.words.is_bad_mode.Goals as goal
 
-eight : (c : tie.Else1) → c.before.before.before.args.length ≡ 8
-eight c = omega (arith, c.if1.false)
-
 in_two : (mode : ℕ) (control enhanced inline : Bool) → mode ≡ 2
     → not (eqb 8 (if eqb mode 0 then 4 else 8)) || (eqb mode 1 && control || (eqb mode 2 && enhanced || (eqb mode 3 && inline))) ≡ enhanced
 in_two mode control enhanced inline m = rw m (or-false enhanced)
-
-mode-two : (c : tie.Else3) → mode_in c.before.before.before.before.before.args.first ≡ 2
-mode-two c =
-    let e = c.before.before.before.mode_in.ensures in
-    let p = c.before.before.before.before.before.requires in
-    omega arith
 
 pub returns-then-length-ne8 : goal.returns-then-length-ne8
 returns-then-length-ne8 c = simp (ne_eqb _ _ c.requires, ne_eqb c.args.length 8 (λ e. omega (arith, c.if-length-ne8.true)))
 
 pub returns-then-mode-eq1 : goal.returns-then-mode-eq1
 returns-then-mode-eq1 c =
+    let eight : c.args.length ≡ 8 = omega (arith, c.if-length-ne8.false) in
     rw (
       sym c.mode_in-mode.ensures ∙ c.if-mode-eq1.true,
-      eight c,
+      eight,
       ← c.address_in-a.ensures,
       ← c.is_control.ensures,
     )
@@ -37,14 +29,17 @@ returns-then-mode-eq1 c =
 
 pub returns-then-mode-eq3 : goal.returns-then-mode-eq3
 returns-then-mode-eq3 c =
+    let eight : c.args.length ≡ 8 = omega (arith, c.if-length-ne8.false) in
     rw (
       sym c.mode_in-mode.ensures ∙ c.if-mode-eq3.true,
-      eight c,
+      eight,
       ← c.address_in-a.ensures,
       ← c.is_write.ensures,
     )
 
 pub returns : goal.returns
 returns c =
-    rw (eight c)
-    (c.is_bad_enhanced.ensures ∙ sym (in_two _ _ _ _ (mode-two c)))
+    let eight : c.args.length ≡ 8 = omega (arith, c.if-length-ne8.false) in
+    let two : mode_in c.args.first ≡ 2 = let e = c.mode_in-mode.ensures in let p = c.requires in omega arith in
+    rw eight
+    (c.is_bad_enhanced.ensures ∙ sym (in_two _ _ _ _ two))

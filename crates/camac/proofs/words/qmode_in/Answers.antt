@@ -6,11 +6,6 @@ use Rattle.camac.specs.Words.{qmode_bits}
 use Rattle.camac.proofs.Laws.{three}
 use Rattle.camac.proofs.words.qmode_in.Goals as goal
 
-third : (c : tie.After-third_qmode) → qmode_bits c.before.before.args.first ≡ 3
-third c =
-    let rest = c.before.match.rest in
-    three (qmode_bits c.before.before.args.first) (omega arith) rest.0.0.1 rest.0.1 rest.1
-
 pub returns-in-0 : goal.returns-in-0
 returns-in-0 c = simp (c.in-0.is, and-false)
 
@@ -19,6 +14,3 @@ returns-in-1 c = simp (c.in-1.is, and-false)
 
 pub returns-in-2 : goal.returns-in-2
 returns-in-2 c = simp (c.in-2.is, and-false)
-
-pub returns-in_default : goal.returns-in_default
-returns-in_default c = rw (third c, and-true) c.third_qmode.ensures

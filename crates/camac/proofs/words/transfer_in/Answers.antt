@@ -1,4 +1,5 @@
 -- `transfer_in` is `transfer_in`, mode by mode; a mode that is none of 0, 1 and 2 is 3 or more.
+use borrow.Author.Rules.{rules}
 use Rattle.camac.specs.Words.{transfer_in}
 use Rattle.camac.proofs.Laws.{three_or_more}
 use Rattle.camac.proofs.words.transfer_in.Goals as goal
@@ -17,4 +18,4 @@ returns-in-2 c = simp (c.in-2.is, c.block_words-in-2.ensures)
 
 pub returns-in_default : goal.returns-in_default
 unfolding transfer_in
-returns-in_default c = rw (three_or_more _ c.in_default.rest.0.0.1 c.in_default.rest.0.1 c.in_default.rest.1)
+returns-in_default c = search rules

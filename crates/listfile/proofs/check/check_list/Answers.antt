@@ -24,7 +24,7 @@ returns-in_default c =
 pub bad_jump-jumps-requires : goal.bad_jump-jumps-requires
 bad_jump-jumps-requires c =
     let t = table_counted _ _ _ _ c.in-Through.is c.pass_fields-pass.ensures.1 in
-    (omega (arith, c.pass_fields-pass.auto.1.0, t.0), (t.1.0, t.1.1))
+    (omega (arith, c.pass_fields-pass.auto.table, t.0), (t.1.0, t.1.1))
 
 pub returns-in-BadAt : goal.returns-in-BadAt
 returns-in-BadAt c =

@@ -13,12 +13,3 @@ returns-in-33 c = simp c.in-33.is
 
 pub returns-in-47 : goal.returns-in-47
 returns-in-47 c = simp c.in-47.is
-
-pub returns-in_default : goal.returns-in_default
-returns-in_default c =
-    simp (
-      ne_eqb _ _ c.in_default.rest.0.0.0.1,
-      ne_eqb _ _ c.in_default.rest.0.0.1,
-      ne_eqb _ _ c.in_default.rest.0.1,
-      ne_eqb _ _ c.in_default.rest.1,
-    )

@@ -10,26 +10,19 @@ use Rattle.listfile.specs.Fields.{first_at, second_at}
 use Rattle.listfile.proofs.PartLaws.{block_inside, block_second}
 use Rattle.listfile.proofs.parts.words_at.Goals as goal
 
-abbrev start : tie.Then1 → tie.Start
-start c = c.before.before.before
-
-block : (c : tie.Then1) → is_block_in (first_at (start c).args.list.now (start c).args.at) ≡ true
-block c = ap is_block_in (sym (start c).requires.1.1) ∙ sym c.before.is_Block.ensures ∙ c.if1.true
-
-inside : (c : tie.Then1) → (start c).args.at + 11 ≤ length (start c).args.list.now
-inside c = block_inside _ _ (start c).requires.0 (start c).requires.1.0 (block c)
-
 pub overflow_add-at : goal.overflow_add-at
-overflow_add-at c = omega (arith, inside c)
+overflow_add-at c =
+    omega (arith, block_inside _ _ c.requires.0 c.requires.1.0 (ap is_block_in (sym c.requires.1.1) ∙ sym c.is_block.ensures ∙ c.if-is_block.true))
 
 pub whole_at-requires : goal.whole_at-requires
-whole_at-requires c = omega (arith, inside c)
+whole_at-requires c =
+    omega (arith, block_inside _ _ c.requires.0 c.requires.1.0 (ap is_block_in (sym c.requires.1.1) ∙ sym c.is_block.ensures ∙ c.if-is_block.true))
 
 pub returns-then-is_block : goal.returns-then-is_block
 returns-then-is_block c =
     c.words_in.ensures
-    ∙ ap (λ (second : ℕ). words_of (command_in (start c).args.first second).transfer)
-    (c.whole_at.ensures ∙ sym (block_second _ _ (start c).requires.0 (start c).requires.1.0 (block c)))
+    ∙ ap (λ (second : ℕ). words_of (command_in c.args.first second).transfer)
+    (c.whole_at.ensures ∙ sym (block_second _ _ c.requires.0 c.requires.1.0 (ap is_block_in (sym c.requires.1.1) ∙ sym c.is_block.ensures ∙ c.if-is_block.true)))
 
 pub returns : goal.returns
 returns c = rw (command_words c.args.first (second_at c.args.list.now c.args.at), ← c.is_block.ensures, c.if-is_block.false)

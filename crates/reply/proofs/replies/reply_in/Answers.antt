@@ -17,4 +17,4 @@ returns-in-2 c = reply_not_recognised _ c.requires.1 c.in-2.is
 
 pub returns-in_default : goal.returns-in_default
 unfolding byte_at
-returns-in_default c = reply_no_sync _ c.requires.1 c.in_default.rest.0.0.1 c.in_default.rest.0.1 c.in_default.rest.1
+returns-in_default c = reply_no_sync _ c.requires.1 c.in_default.in_default-own.rest.0.0.1 c.in_default.in_default-own.rest.0.1 c.in_default.in_default-own.rest.1

@@ -56,7 +56,7 @@ loop-k-preserved c =
       omega arith,
       words_more a.mask a.row.now a.from _ i.1 (sym c.is_word_at.ensures ∙ not-false _ c.if-not-is_word_at.false),
       c.put_narrow.ensures ∙ narrow_more a.row.now a.from a.mark c.loop-k.k _ _ i.2,
-      c.put_narrow.auto.0 ∙ i.3,
+      c.put_narrow.auto.incoming ∙ i.3,
     )
 
 pub shape_of-incoming : goal.shape_of-incoming

@@ -48,7 +48,7 @@ take_wide-requires c =
     (omega (arith, c.loop-k.invariant.2), (omega arith, (p.1.1.1.0, p.1.1.1.1)))
 
 pub shape_of-incoming-then-not-take_wide : goal.shape_of-incoming-then-not-take_wide
-shape_of-incoming-then-not-take_wide c = c.take_wide.auto.0 ∙ c.loop-k.invariant.2
+shape_of-incoming-then-not-take_wide c = c.take_wide.auto.incoming ∙ c.loop-k.invariant.2
 
 pub returns-then-not-take_wide : goal.returns-then-not-take_wide
 returns-then-not-take_wide c =
@@ -74,11 +74,11 @@ overflow_add-from-in-loop-k c = omega arith
 pub take_wide-requires-in-loop-k : goal.take_wide-requires-in-loop-k
 take_wide-requires-in-loop-k c =
     let p = (start c).requires in
-    (omega (arith, c.loop-k.invariant.2, c.take_wide.auto.0), (omega arith, (p.1.1.1.0, p.1.1.1.1)))
+    (omega (arith, c.loop-k.invariant.2, c.take_wide.auto.incoming), (omega arith, (p.1.1.1.0, p.1.1.1.1)))
 
 pub shape_of-incoming-then-not-take_wide-2 : goal.shape_of-incoming-then-not-take_wide-2
 shape_of-incoming-then-not-take_wide-2 c =
-    c.take_wide-in-loop-k.auto.0 ∙ c.take_wide.auto.0 ∙ c.loop-k.invariant.2
+    c.take_wide-in-loop-k.auto.incoming ∙ c.take_wide.auto.incoming ∙ c.loop-k.invariant.2
 
 pub returns-then-not-take_wide-2 : goal.returns-then-not-take_wide-2
 returns-then-not-take_wide-2 c =
@@ -98,7 +98,7 @@ loop-k-preserved c =
     let two = wide_taken one c.take_wide-in-loop-k.ensures (start c).requires.1.1.0 (not-false _ c.if-not-take_wide-2.false) in (
       omega (arith, c.loop-k-test.true),
       subst (λ (n : ℕ). Words c n c.take_wide-in-loop-k.new.0) (omega arith) two,
-      c.take_wide-in-loop-k.auto.0 ∙ c.take_wide.auto.0 ∙ c.loop-k.invariant.2,
+      c.take_wide-in-loop-k.auto.incoming ∙ c.take_wide.auto.incoming ∙ c.loop-k.invariant.2,
     )
 
 pub shape_of-incoming-then-most-k : goal.shape_of-incoming-then-most-k
@@ -127,7 +127,7 @@ pub overflow_add-result : goal.overflow_add-result
 overflow_add-result c = omega arith
 
 pub shape_of-incoming-then-take_wide : goal.shape_of-incoming-then-take_wide
-shape_of-incoming-then-take_wide c = c.take_wide-2.auto.0 ∙ c.loop-k.invariant.2
+shape_of-incoming-then-take_wide c = c.take_wide-2.auto.incoming ∙ c.loop-k.invariant.2
 
 pub returns-then-take_wide : goal.returns-then-take_wide
 returns-then-take_wide c =
@@ -135,7 +135,7 @@ returns-then-take_wide c =
     (omega arith, (r.words, (λ some first. omega arith, r.bytes)))
 
 pub shape_of-incoming : goal.shape_of-incoming
-shape_of-incoming c = c.take_wide-2.auto.0 ∙ c.loop-k.invariant.2
+shape_of-incoming c = c.take_wide-2.auto.incoming ∙ c.loop-k.invariant.2
 
 pub returns : goal.returns
 returns c =

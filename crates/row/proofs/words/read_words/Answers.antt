@@ -27,7 +27,7 @@ read_wide-k-requires c =
           aligned_above c.args.mark,
           room,
           c.pad-to.ensures.0,
-          c.pad-to.auto.0,
+          c.pad-to.auto.buffer,
         ),
         (omega (arith, aligned_multiple c.args.mark even, c.pad-to.ensures.0), (c.requires.1.1.1.1.0, c.requires.1.1.1.1.1.1)),
       ),

@@ -34,11 +34,11 @@ pub loop-j-preserved : goal.loop-j-preserved
 loop-j-preserved c =
     let w = onward _ _ _ _ _ _ c.requires.1.1.0 refl c.instruction_at-i.ensures _ _ c.loop-j.invariant.1.0 _
     _ _ (sym c.advance_by-next.ensures.0 ∙ c.in-On.is) c.advance_by-next.ensures.1 in
-    (λ out. sym (w.2 out) ∙ c.loop-j.invariant.0 out, (w.0, c.advance_by-next.auto.1.1.1.0 ∙ c.loop-j.invariant.1.1))
+    (λ out. sym (w.2 out) ∙ c.loop-j.invariant.0 out, (w.0, c.advance_by-next.auto.incoming ∙ c.loop-j.invariant.1.1))
 
 pub shape_of-incoming-in-At : goal.shape_of-incoming-in-At
 shape_of-incoming-in-At c =
-    c.advance_by-next.auto.1.1.1.0 ∙ c.loop-j.invariant.1.1
+    c.advance_by-next.auto.incoming ∙ c.loop-j.invariant.1.1
 
 pub returns-in-At : goal.returns-in-At
 returns-in-At c =

@@ -94,4 +94,4 @@ pub loop-longword-smaller : goal.loop-longword-smaller
 loop-longword-smaller c = let h = here c in (over_literal h (literal c) _ c.whole_at.ensures _ c.spot_after-at.ensures _ c.after_literal-marks.ensures _ c.store.ensures).less
 
 pub loop-longword-preserved : goal.loop-longword-preserved
-loop-longword-preserved c = let h = here c in came_on _ _ _ _ _ c.loop-longword.invariant (over_literal h (literal c) _ c.whole_at.ensures _ c.spot_after-at.ensures _ c.after_literal-marks.ensures _ c.store.ensures) c.store.auto.0
+loop-longword-preserved c = let h = here c in came_on _ _ _ _ _ c.loop-longword.invariant (over_literal h (literal c) _ c.whole_at.ensures _ c.spot_after-at.ensures _ c.after_literal-marks.ensures _ c.store.ensures) c.store.auto.buffer

@@ -97,7 +97,7 @@ reach-next-requires c =
 
 pub shape_of-incoming-then-next : goal.shape_of-incoming-then-next
 shape_of-incoming-then-next c =
-    let m = visited c in c.reach-next.auto.1.1.1.1.1.0 ∙ (passed m (word (at m))).0.kept
+    let m = visited c in c.reach-next.auto.incoming ∙ (passed m (word (at m))).0.kept
 
 pub returns-then-next : goal.returns-then-next
 returns-then-next c =
@@ -123,4 +123,4 @@ pub loop-here-preserved : goal.loop-here-preserved
 loop-here-preserved c = λ r x.
     let m = visited c in let p = (start (at m)).pre in
     word_next p.0 p.1.1 (passed m ((at m).loop.inv r x)).0 (none c) (reached c) c.if-next.false c.arrive-here.ensures
-    c.reach-next.auto.1.1.1.1.1.0
+    c.reach-next.auto.incoming

@@ -13,11 +13,11 @@ returns-in_default c =
 pub steps_planned-requires : goal.steps_planned-requires
 steps_planned-requires c =
     prepared_ready _ _ _ _ c.prepare-prepared.ensures.0 _ c.prepare-prepared.ensures.1 _ c.in-Ready.is
-    (λ i. omega (arith, c.shared_slice_known-1.given i)) c.prepare-prepared.auto.1.0
+    (λ i. omega (arith, c.shared_slice_known-1.given i)) c.prepare-prepared.auto.table
 
 pub returns : goal.returns
 returns c =
     let x = prepared_ready _ _ _ _ c.prepare-prepared.ensures.0 _ c.prepare-prepared.ensures.1 _ c.in-Ready.is
-    (λ i. omega (arith, c.shared_slice_known-1.given i)) c.prepare-prepared.auto.1.0 in
+    (λ i. omega (arith, c.shared_slice_known-1.given i)) c.prepare-prepared.auto.table in
     steps_prepared_lem c.args.list.now c.args.incoming.now c.args.outgoing.now c.args.row.now c.args.r
     _ _ _ x _ _ _ c.steps_planned.ensures
