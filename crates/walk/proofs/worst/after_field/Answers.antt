@@ -7,16 +7,17 @@ use Rattle.listfile.specs.Fields.{second_at}
 use Rattle.walk.proofs.SumLaws.{field_sums}
 use Rattle.walk.proofs.worst.after_field.Goals as goal
 
-few : (c : tie.After-words_at) → c.words_at.result ≤ 2 ^ 32
-few c =
-    let start = c.before.before.before.before.args in
-    omega (arith, command_few c.before.before.first_at.result (second_at start.list.now start.at), c.words_at.ensures)
-
 pub worst_words-requires : goal.worst_words-requires
-worst_words-requires c = (c.requires.0, omega (arith, few c))
+worst_words-requires c =
+    let few : c.words_at-words.result ≤ 2 ^ 32 =
+        omega (arith, command_few c.first_at-first.result (second_at c.args.list.now c.args.at), c.words_at-words.ensures) in
+    (c.requires.0, omega arith)
 
 pub added_by-requires : goal.added_by-requires
-added_by-requires c = (few c, c.requires.1.1.1)
+added_by-requires c =
+    let few : c.words_at-words.result ≤ 2 ^ 32 =
+        omega (arith, command_few c.first_at-first.result (second_at c.args.list.now c.args.at), c.words_at-words.ensures) in
+    (few, c.requires.1.1.1)
 
 pub returns : goal.returns
 returns c =
