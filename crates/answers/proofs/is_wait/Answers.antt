@@ -12,6 +12,6 @@ returns c = λ e. let p = c.requires in record {
   some = p.0;
   answered = p.1.0;
   no_word = p.1.1.1.1;
-  judged = rw (← c.wait_flags.ensures) (sym c.is_word_at.ensures ∙ not-false _ c.if-not-is_word_at.false);
+  judged = rw (← c.wait_flags.ensures) (sym c.is_word_at.ensures ∙ c.if-not-is_word_at.false);
   tried = sym c.can_wait.ensures ∙ e;
 }

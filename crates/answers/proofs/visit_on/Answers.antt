@@ -78,7 +78,7 @@ pub loop-here-preserved : goal.loop-here-preserved
 loop-here-preserved c =
     let i = c.loop-here.invariant in
     wait_turn _ _ _ _ _ _ _ _ i.0 i.1.0 i.1.1 c.requires.0
-    (c.is_wait.ensures (not-false _ c.if-not-is_wait.false)) _ c.after_wait-here.ensures
+    (c.is_wait.ensures (c.if-not-is_wait.false)) _ c.after_wait-here.ensures
 
 pub shape_of-incoming : goal.shape_of-incoming
 shape_of-incoming c = c.loop-here.invariant.1.1

@@ -19,8 +19,7 @@ sum a x q ex eq = rw (ex, eq)
 
 pub returns-in-Answered : goal.returns-in-Answered
 returns-in-Answered c =
-    let given = c.reply-1.given in
-    rw given.1 (sum given.0.0 _ _ c.value_if.ensures c.value_if-in-Answered.ensures)
+    rw c.in-Answered.is (sum c.in-Answered.a _ _ c.value_if.ensures c.value_if-in-Answered.ensures)
 
 pub overflow_add-result : goal.overflow_add-result
 overflow_add-result c = omega (arith, at_most c.in-Answered.a.x 1073741824 _ c.value_if.ensures)

@@ -22,7 +22,7 @@ is_formed_at-requires c = omega arith
 pub returns-then-not-is_formed_at : goal.returns-then-not-is_formed_at
 returns-then-not-is_formed_at c =
     let a = c.args in
-    one_unformed a.row.now c.loop-j.j (omega arith) (sym c.is_formed_at.ensures ∙ not-true _ c.if-not-is_formed_at.true)
+    one_unformed a.row.now c.loop-j.j (omega arith) (sym c.is_formed_at.ensures ∙ c.if-not-is_formed_at.true)
 
 pub answers_with-first-requires : goal.answers_with-first-requires
 answers_with-first-requires c = omega arith
@@ -41,7 +41,7 @@ loop-j-preserved c =
     let e = c.answers_with-first.ensures in (
       omega (arith, e.0),
       below_more (λ (j : ℕ). a.from ≤ j → is_formed (take 8 (drop (j * 8) a.row.now)) ≡ true) at i.1
-          (λ f. sym c.is_formed_at.ensures ∙ not-false _ c.if-not-is_formed_at.false),
+          (λ f. sym c.is_formed_at.ensures ∙ c.if-not-is_formed_at.false),
       below_more (λ (j : ℕ). a.from ≤ j → j < c.answers_with-first.result → get_or a.row.now (j * 8) 0 ≡ 0) at
           (λ j l f b. i.2 j l f (omega (arith, e.0))) (λ f b. e.1 b),
     )

@@ -23,7 +23,7 @@ returns-then-not-is_word_at c =
       i.0,
       (
         i.1,
-        λ some first. first_passed a.mask a.row.now a.from _ (sym c.is_word_at.ensures ∙ not-true _ c.if-not-is_word_at.true) first,
+        λ some first. first_passed a.mask a.row.now a.from _ (sym c.is_word_at.ensures ∙ c.if-not-is_word_at.true) first,
       ),
     )
 
@@ -37,7 +37,7 @@ pub loop-k-preserved : goal.loop-k-preserved
 loop-k-preserved c =
     let a = c.args in (
       omega arith,
-      words_more a.mask a.row.now a.from _ c.loop-k.invariant.1 (sym c.is_word_at.ensures ∙ not-false _ c.if-not-is_word_at.false),
+      words_more a.mask a.row.now a.from _ c.loop-k.invariant.1 (sym c.is_word_at.ensures ∙ c.if-not-is_word_at.false),
     )
 
 pub returns : goal.returns

@@ -25,7 +25,7 @@ pub returns-then-not-is_word_at : goal.returns-then-not-is_word_at
 returns-then-not-is_word_at c =
     let a = c.args in
     let i = c.loop-k.invariant in
-    let passed = first_passed a.mask a.row.now a.from c.loop-k.k (sym c.is_word_at.ensures ∙ not-true _ c.if-not-is_word_at.true) in
+    let passed = first_passed a.mask a.row.now a.from c.loop-k.k (sym c.is_word_at.ensures ∙ c.if-not-is_word_at.true) in
     (i.0, (i.1, (λ some first. passed first, i.2)))
 
 pub overflow_mul-k : goal.overflow_mul-k
@@ -54,7 +54,7 @@ loop-k-preserved c =
     let a = c.args in
     let i = c.loop-k.invariant in (
       omega arith,
-      words_more a.mask a.row.now a.from _ i.1 (sym c.is_word_at.ensures ∙ not-false _ c.if-not-is_word_at.false),
+      words_more a.mask a.row.now a.from _ i.1 (sym c.is_word_at.ensures ∙ c.if-not-is_word_at.false),
       c.put_narrow.ensures ∙ narrow_more a.row.now a.from a.mark c.loop-k.k _ _ i.2,
       c.put_narrow.auto.incoming ∙ i.3,
     )

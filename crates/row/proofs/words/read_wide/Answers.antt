@@ -9,22 +9,6 @@ use borrow.Author.Tests.{not-true, not-false}
 use Rattle.row.proofs.WordLaws.{first_passed, WideRead, wide_none, wide_taken, wide_left}
 use Rattle.row.proofs.words.read_wide.Goals as goal
 
--- where the loop stands
-module _ (a : tie.At-loop invariant-loop decreases-loop) where
-  abbrev start : tie.Start invariant-loop decreases-loop
-  start = a.before.before.before
-
-  abbrev Words : ℕ → List ℕ → Type 0
-  Words k now = let x = start.args in WideRead x.mask x.row.now x.from x.mark x.incoming.now k now
-
--- the first word of two taken
-module _ (m : tie.After-take_wide invariant-loop decreases-loop) where
-  abbrev at : tie.At-loop invariant-loop decreases-loop
-  at = m.before.before.before
-
-  first_taken : m.take_wide.result ≡ true → Words at (at.loop.k + 1) m.take_wide.last.0
-  first_taken e = wide_taken at.loop.inv.1 m.take_wide.ensures (start at).pre.1.1.0 e
-
 pub loop-k-init : goal.loop-k-init
 loop-k-init c =
     let a = c.args in
@@ -44,7 +28,7 @@ overflow_add-from c = omega arith
 
 pub take_wide-requires : goal.take_wide-requires
 take_wide-requires c =
-    let p = (start c).requires in
+    let p = c.requires in
     (omega (arith, c.loop-k.invariant.2), (omega arith, (p.1.1.1.0, p.1.1.1.1)))
 
 pub shape_of-incoming-then-not-take_wide : goal.shape_of-incoming-then-not-take_wide
@@ -52,10 +36,10 @@ shape_of-incoming-then-not-take_wide c = c.take_wide.auto.incoming ∙ c.loop-k.
 
 pub returns-then-not-take_wide : goal.returns-then-not-take_wide
 returns-then-not-take_wide c =
-    let a = (start c).args in
+    let a = c.args in
     let i = c.loop-k.invariant in
     let t = c.take_wide.ensures in
-    let stopped = not-true _ c.if-not-take_wide.true in
+    let stopped = c.if-not-take_wide.true in
     let r = wide_left i.1 t stopped in
     (i.0, (r.words, (λ some first. first_passed a.mask a.row.now a.from c.loop-k.k (sym t.0 ∙ stopped) first, r.bytes)))
 
@@ -73,7 +57,7 @@ overflow_add-from-in-loop-k c = omega arith
 
 pub take_wide-requires-in-loop-k : goal.take_wide-requires-in-loop-k
 take_wide-requires-in-loop-k c =
-    let p = (start c).requires in
+    let p = c.requires in
     (omega (arith, c.loop-k.invariant.2, c.take_wide.auto.incoming), (omega arith, (p.1.1.1.0, p.1.1.1.1)))
 
 pub shape_of-incoming-then-not-take_wide-2 : goal.shape_of-incoming-then-not-take_wide-2
@@ -82,8 +66,8 @@ shape_of-incoming-then-not-take_wide-2 c =
 
 pub returns-then-not-take_wide-2 : goal.returns-then-not-take_wide-2
 returns-then-not-take_wide-2 c =
-    let one = first_taken c (not-false _ c.if-not-take_wide.false) in
-    let r = wide_left one c.take_wide-in-loop-k.ensures (not-true _ c.if-not-take_wide-2.true) in
+    let one = wide_taken c.loop-k.invariant.1 c.take_wide.ensures c.requires.1.1.0 c.if-not-take_wide.false in
+    let r = wide_left one c.take_wide-in-loop-k.ensures (c.if-not-take_wide-2.true) in
     (omega (arith, c.loop-k-test.true), (r.words, (λ some first. omega arith, r.bytes)))
 
 pub overflow_add-k-in-loop-k : goal.overflow_add-k-in-loop-k
@@ -94,10 +78,10 @@ loop-k-smaller c = omega arith
 
 pub loop-k-preserved : goal.loop-k-preserved
 loop-k-preserved c =
-    let one = first_taken c (not-false _ c.if-not-take_wide.false) in
-    let two = wide_taken one c.take_wide-in-loop-k.ensures (start c).requires.1.1.0 (not-false _ c.if-not-take_wide-2.false) in (
+    let one = wide_taken c.loop-k.invariant.1 c.take_wide.ensures c.requires.1.1.0 c.if-not-take_wide.false in
+    let two = wide_taken one c.take_wide-in-loop-k.ensures c.requires.1.1.0 (c.if-not-take_wide-2.false) in (
       omega (arith, c.loop-k-test.true),
-      subst (λ (n : ℕ). Words c n c.take_wide-in-loop-k.new.0) (omega arith) two,
+      subst (λ (n : ℕ). WideRead c.args.mask c.args.row.now c.args.from c.args.mark c.args.incoming.now n c.take_wide-in-loop-k.new.incoming) (omega arith) two,
       c.take_wide-in-loop-k.auto.incoming ∙ c.take_wide.auto.incoming ∙ c.loop-k.invariant.2,
     )
 
@@ -120,7 +104,7 @@ overflow_add-from-2 c = omega arith
 
 pub take_wide-requires-2 : goal.take_wide-requires-2
 take_wide-requires-2 c =
-    let p = (start c).requires in
+    let p = c.requires in
     (omega (arith, c.loop-k.invariant.2), (omega arith, (p.1.1.1.0, p.1.1.1.1)))
 
 pub overflow_add-result : goal.overflow_add-result
@@ -131,7 +115,7 @@ shape_of-incoming-then-take_wide c = c.take_wide-2.auto.incoming ∙ c.loop-k.in
 
 pub returns-then-take_wide : goal.returns-then-take_wide
 returns-then-take_wide c =
-    let r = wide_taken c.loop-k.invariant.1 c.take_wide-2.ensures (start c).requires.1.1.0 c.if-take_wide.true in
+    let r = wide_taken c.loop-k.invariant.1 c.take_wide-2.ensures c.requires.1.1.0 c.if-take_wide.true in
     (omega arith, (r.words, (λ some first. omega arith, r.bytes)))
 
 pub shape_of-incoming : goal.shape_of-incoming
@@ -139,7 +123,7 @@ shape_of-incoming c = c.take_wide-2.auto.incoming ∙ c.loop-k.invariant.2
 
 pub returns : goal.returns
 returns c =
-    let a = (start c).args in
+    let a = c.args in
     let i = c.loop-k.invariant in
     let t = c.take_wide-2.ensures in
     let r = wide_left i.1 t c.if-take_wide.false in
