@@ -113,7 +113,7 @@ module _ {limit : ℕ} {c : Command} {r : Record} {row : List ℕ} {answers from
       rw (← after_more (rules_of c) row answers u (suc j), ← bytes_more (rules_of c) row answers u (suc j) x)
       (word_kept (words_kept p j (words_before (rules_of c) row answers u j w)) (words_behind (rules_of c) row answers u (suc j) w))
 
-  pub passed_kept : {u v : Stay} {x y : List ℕ} → P u x → Passed (rules_of c) limit row answers u x v y → P v y
+  pub passed_kept : {u : Stay} {x : List ℕ} {v : Stay} {y : List ℕ} → P u x → Passed (rules_of c) limit row answers u x v y → P v y
   passed_kept p none = p
   passed_kept p (words zero q w) = absurd (omega (arith, w.some))
   passed_kept p (words (suc j) q w) = words_kept (passed_kept p q) j w

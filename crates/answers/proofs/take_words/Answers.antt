@@ -12,28 +12,6 @@ use Rattle.answers.specs.model.Visit.{Words}
 use Rattle.answers.proofs.VisitRoom.{ahead_most, read_in, bytes_by_lem, some_words, words_with, read_mark, marks_to}
 use Rattle.answers.proofs.take_words.Goals as goal
 
--- the words that each arm counted
-abbrev Counted : tie.Start → ℕ → Type 0
-Counted s k = Words s.args.rules s.args.row.now s.args.answers s.args.here k
-
-first : (s : tie.Start) → eqb (bit_and (flags_at s.args.row.now s.args.here.taken) s.args.rules.word) (s.args.rules.word % 4) ≡ true
-first s = first_word s.args.rules.word s.args.row.now s.args.here.taken s.requires.1.are
-
-read : (c : tie.After-read_words) → Counted c.before.before.before.before.before.before.before c.read_words.result.words
-read c =
-    let p = c.before.before.before.before.before.before.before.requires in
-    let k = c.read_words.ensures in some_words _ _ _ _ _ _ p.2.1.0 p.2.1.1 k.0 k.1.0 k.1.1.0
-
-written : (c : tie.After-pass_words) → Counted c.before.before.before.before.before.before c.pass_words.result
-written c =
-    let s = c.before.before.before.before.before.before in
-    let k = c.pass_words.ensures in some_words _ _ _ _ _ _ s.requires.2.1.0 s.requires.2.1.1 (k.1.1 s.requires.2.0 (first s)) k.0 k.1.0
-
-passed : (c : tie.After-pass_words2) → Counted c.before.before.before.before.before.before c.pass_words2.result
-passed c =
-    let s = c.before.before.before.before.before.before in
-    let k = c.pass_words2.ensures in some_words _ _ _ _ _ _ s.requires.2.1.0 s.requires.2.1.1 (k.1.1 s.requires.2.0 (first s)) k.0 k.1.0
-
 pub read_words-read-requires : goal.read_words-read-requires
 read_words-read-requires c =
     let p = c.requires in (
@@ -47,38 +25,60 @@ read_words-read-requires c =
 pub behind_words-requires : goal.behind_words-requires
 behind_words-requires c =
     let p = c.requires in
-    words_with _ _ _ _ _ p.0 _ (read c) (omega (arith, p.0.taken, c.ranges))
+    let k = c.read_words-read.ensures in
+    let counted : Words c.args.rules c.args.row.now c.args.answers c.args.here c.read_words-read.result.words =
+        some_words _ _ _ _ _ _ c.requires.2.1.0 c.requires.2.1.1 k.0 k.1.0 k.1.1.0 in
+    words_with _ _ _ _ _ p.0 _ counted (omega (arith, p.0.taken, c.ranges))
     (read_mark _ _ _ _ c.read_words-read.result.words c.in-Incoming.is c.read_words-read.ensures.1.1.1.1)
 
 pub after_words-requires : goal.after_words-requires
 after_words-requires c =
-    let p = c.requires in words_with _ _ _ _ _ p.0 _ (written c) (omega (arith, p.0.taken)) (marks_to _ _ _ _ _ p.0)
+    let p = c.requires in
+    let k = c.pass_words-words.ensures in
+    let counted : Words c.args.rules c.args.row.now c.args.answers c.args.here c.pass_words-words.result =
+        some_words _ _ _ _ _ _ c.requires.2.1.0 c.requires.2.1.1 (k.1.1 c.requires.2.0 (first_word c.args.rules.word c.args.row.now c.args.here.taken c.requires.1.are)) k.0 k.1.0 in
+    words_with _ _ _ _ _ p.0 _ counted (omega (arith, p.0.taken)) (marks_to _ _ _ _ _ p.0)
 
 pub after_words-requires-in-Neither : goal.after_words-requires-in-Neither
 after_words-requires-in-Neither c =
-    let p = c.requires in words_with _ _ _ _ _ p.0 _ (passed c) (omega (arith, p.0.taken)) (marks_to _ _ _ _ _ p.0)
+    let p = c.requires in
+    let k = c.pass_words-words-in-Neither.ensures in
+    let counted : Words c.args.rules c.args.row.now c.args.answers c.args.here c.pass_words-words-in-Neither.result =
+        some_words _ _ _ _ _ _ c.requires.2.1.0 c.requires.2.1.1 (k.1.1 c.requires.2.0 (first_word c.args.rules.word c.args.row.now c.args.here.taken c.requires.1.are)) k.0 k.1.0 in
+    words_with _ _ _ _ _ p.0 _ counted (omega (arith, p.0.taken)) (marks_to _ _ _ _ _ p.0)
 
 pub returns-in-Incoming : goal.returns-in-Incoming
 returns-in-Incoming c =
+    let k = c.read_words-read.ensures in
+    let counted : Words c.args.rules c.args.row.now c.args.answers c.args.here c.read_words-read.result.words =
+        some_words _ _ _ _ _ _ c.requires.2.1.0 c.requires.2.1.1 k.0 k.1.0 k.1.1.0 in
     record {
       count = c.read_words-read.result.words;
-      words = read c;
+      words = counted;
       behind = c.behind_words.ensures;
       bytes = bytes_by_lem _ _ _ _ _ _ _ c.in-Incoming.is c.read_words-read.ensures.1.1.1.0;
     }
 
 pub returns-in-Outgoing : goal.returns-in-Outgoing
-returns-in-Outgoing c = record {
+returns-in-Outgoing c =
+    let k = c.pass_words-words.ensures in
+    let counted : Words c.args.rules c.args.row.now c.args.answers c.args.here c.pass_words-words.result =
+        some_words _ _ _ _ _ _ c.requires.2.1.0 c.requires.2.1.1 (k.1.1 c.requires.2.0 (first_word c.args.rules.word c.args.row.now c.args.here.taken c.requires.1.are)) k.0 k.1.0 in
+    record {
   count = c.pass_words-words.result;
-  words = written c;
+  words = counted;
   behind = c.after_words.ensures;
   bytes = bytes_by_lem _ _ _ _ _ _ _ c.in-Outgoing.is refl;
 }
 
 pub returns-in-Neither : goal.returns-in-Neither
-returns-in-Neither c = record {
+returns-in-Neither c =
+    let k = c.pass_words-words-in-Neither.ensures in
+    let counted : Words c.args.rules c.args.row.now c.args.answers c.args.here c.pass_words-words-in-Neither.result =
+        some_words _ _ _ _ _ _ c.requires.2.1.0 c.requires.2.1.1 (k.1.1 c.requires.2.0 (first_word c.args.rules.word c.args.row.now c.args.here.taken c.requires.1.are)) k.0 k.1.0 in
+    record {
   count = c.pass_words-words-in-Neither.result;
-  words = passed c;
+  words = counted;
   behind = c.after_words-in-Neither.ensures;
   bytes = bytes_by_lem _ _ _ _ _ _ _ c.in-Neither.is refl;
 }

@@ -50,22 +50,26 @@ module _ (note : Note) (incoming outgoing : List ℕ) (p q : ℕ × ℕ) (at : �
 pub overflow_add-result : goal.overflow_add-result
 overflow_add-result c = omega (arith, ends _ _ _ (sym c.lies_in.ensures ∙ c.if-lies_in.true))
 
--- TODO no need slice_bounds-result-end
--- part-result-end : tie.Need-slice_bounds-result-end
--- part-result-end c = omega (arith, ends _ _ _ (sym c.before.lies_in.ensures ∙ c.if1.true))
+pub slice_bounds-result-end : goal.slice_bounds-result-end
+slice_bounds-result-end c = omega (arith, ends _ _ _ (sym c.lies_in.ensures ∙ c.if-lies_in.true))
 
 pub returns-then-lies_in : goal.returns-then-lies_in
-returns-then-lies_in c = shown-incoming _ _ _ c.args.incoming.ptr c.args.outgoing.ptr _ (sym c.lies_in.ensures ∙ c.if-lies_in.true) (omega arith)
+returns-then-lies_in c =
+    let shown = shown-incoming _ _ _ c.args.incoming.ref_ptr c.args.outgoing.ref_ptr _ (sym c.lies_in.ensures ∙ c.if-lies_in.true) (omega arith) in
+    record { bytes = shown.0; place = shown.1 }
 
 pub overflow_add-result-then-lies_in-2 : goal.overflow_add-result-then-lies_in-2
 overflow_add-result-then-lies_in-2 c = omega (arith, ends _ _ _ (sym c.lies_in-2.ensures ∙ c.if-lies_in-2.true))
 
--- TODO no need slice_bounds-result-end-2
--- part-result-end-2 : tie.Need-slice_bounds-result-end-2
--- part-result-end-2 c = omega (arith, ends _ _ _ (sym c.before.lies_in2.ensures ∙ c.if2.true))
+pub slice_bounds-result-end-then-lies_in-2 : goal.slice_bounds-result-end-then-lies_in-2
+slice_bounds-result-end-then-lies_in-2 c = omega (arith, ends _ _ _ (sym c.lies_in-2.ensures ∙ c.if-lies_in-2.true))
 
 pub returns-then-lies_in-2 : goal.returns-then-lies_in-2
-returns-then-lies_in-2 c = shown-outgoing _ _ _ c.args.incoming.ptr c.args.outgoing.ptr _ (sym c.lies_in.ensures ∙ c.if-lies_in.false) (sym c.lies_in-2.ensures ∙ c.if-lies_in-2.true) (omega arith)
+returns-then-lies_in-2 c =
+    let shown = shown-outgoing _ _ _ c.args.incoming.ref_ptr c.args.outgoing.ref_ptr _ (sym c.lies_in.ensures ∙ c.if-lies_in.false) (sym c.lies_in-2.ensures ∙ c.if-lies_in-2.true) (omega arith) in
+    record { bytes = shown.0; place = shown.1 }
 
 pub returns : goal.returns
-returns c = shown-none _ _ _ c.args.incoming.ptr c.args.outgoing.ptr _ (sym c.lies_in.ensures ∙ c.if-lies_in.false) (sym c.lies_in-2.ensures ∙ c.if-lies_in-2.false) (omega arith)
+returns c =
+    let shown = shown-none _ _ _ c.args.incoming.ref_ptr c.args.outgoing.ref_ptr _ (sym c.lies_in.ensures ∙ c.if-lies_in.false) (sym c.lies_in-2.ensures ∙ c.if-lies_in-2.false) (omega arith) in
+    record { bytes = shown.0; place = shown.1 }
