@@ -2,14 +2,11 @@
 -- arrived. The rest from an instruction on begins with that instruction, which the table has.
 use Prim.Native.Nat.{ℕ, ◌<◌}
 use mathlib.Core.Path.{◌≡◌, refl, sym, ap, ◌∙◌, subst}
-use mathlib.Core.Logic.{⊎_elim}
 use mathlib.Core.Bool.{Bool, true, false}
 use mathlib.Core.List.{List, [], ◌∷◌}
 use mathlib.Core.Option.{some}
 use native.Mathlib.Omega.{arith}
 use borrow.Author.Tests.{leb-true, leb-false}
-use types.Run.{OneOf}
-use denote.Enum.Declared.{tag_of}
 use lib.Dec.{leb}
 use lib.ListN.{length, get_or}
 use Rattle.camac.specs.declared.words.Command.{Command}
@@ -17,7 +14,6 @@ use Rattle.listfile.specs.Fields.{Field}
 use Rattle.listfile.specs.model.Table.{instruction_at, first_fields, TableRight}
 use Rattle.listfile.specs.declared.field.Instruction.{Instruction}
 use Rattle.listfile.specs.declared.field.Instruction.TheVariants.{Camac, Jump, Literal, Halt}
-use Rattle.listfile.specs.contracts.field.Instruction.{the_type}
 use Rattle.walk.specs.Walk.{spot_after, Visit, visit, field_at, marks_after, marks_over}
 use Rattle.walk.specs.model.Sums.{rest_from}
 use Rattle.walk.proofs.Halting.{none_some, same_some}
@@ -131,11 +127,11 @@ module _ (list table : List ℕ) (r : Record) (out : List ℕ) where
     pub wanted_camac : (c : Command) → i ≡ Camac c → operation_of c r out ≡ wanted_by list table r out
     wanted_camac c e = ap (λ (x : Instruction). operation_at x r out) (sym e) ∙ wanted_at_lem
 
-    pub wanted_none : OneOf (1 ∷ 2 ∷ 3 ∷ []) (tag_of the_type i) → no_operation ≡ wanted_by list table r out
+    pub wanted_none : ((c : Command) → i ≡ Camac c → ⊥) → no_operation ≡ wanted_by list table r out
     wanted_none k = by i k ∙ wanted_at_lem
       where
-        by : (i : Instruction) → OneOf (1 ∷ 2 ∷ 3 ∷ []) (tag_of the_type i) → no_operation ≡ operation_at i r out
-        by (Camac c) k = absurd (⊎_elim (λ e. omega arith) (⊎_elim (λ e. omega arith) (λ e. omega arith)) k)
+        by : (i : Instruction) → ((c : Command) → i ≡ Camac c → ⊥) → no_operation ≡ operation_at i r out
+        by (Camac c) k = absurd (k c refl)
         by (Jump target) k = refl
         by (Literal v) k = refl
         by Halt k = refl

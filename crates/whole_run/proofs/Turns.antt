@@ -2,20 +2,17 @@
 -- leaves a record that has ended or fits. A record that waits has its instruction in the table.
 use Prim.Native.Nat.{ℕ, ◌+◌, ◌≤◌, ◌<◌}
 use mathlib.Core.Path.{◌≡◌, refl, sym, ap, ◌∙◌, subst}
-use mathlib.Core.Logic.{◌⊎◌, inl, inr, ⊎_elim}
+use mathlib.Core.Logic.{◌⊎◌, inl, inr}
 use mathlib.Core.Bool.{true, false, true≢false}
 use mathlib.Core.List.{List, [], ◌∷◌}
 use mathlib.Core.Option.{some}
 use native.Mathlib.Omega.{arith}
 use lib.ListN.{length, get_or, take, drop}
-use types.Run.{OneOf}
-use denote.Enum.Declared.{tag_of}
 use Rattle.camac.specs.declared.words.Command.{Command}
 use Rattle.listfile.specs.model.Table.{instruction_at}
 use Rattle.listfile.specs.declared.check.Sizes.{Sizes}
 use Rattle.listfile.specs.declared.field.Instruction.{Instruction}
 use Rattle.listfile.specs.declared.field.Instruction.TheVariants.{Camac, Jump, Literal, Halt}
-use Rattle.listfile.specs.contracts.field.Instruction.{the_type}
 use Rattle.walk.specs.Walk.{spot_after, moved}
 use Rattle.walk.specs.Admission.{Plan}
 use Rattle.walk.specs.model.Sums.{rest_from, plan_by}
@@ -148,11 +145,5 @@ module _ (list table : List ℕ) (s : Sizes) (room : ℕ) (g : Grounds list tabl
 
   -- nothing else stands there
   pub no_other : {A : Type 0} (i : Instruction) → i ≡ instruction_at list (get_or table r.spot.instruction 0)
-      → OneOf (1 ∷ 2 ∷ 3 ∷ []) (tag_of the_type i) → A
-  no_other i e k = let d = decoded i e in by d.0 i d.1.0 k
-    where
-      by : {A : Type 0} (c : Command) (i : Instruction) → i ≡ Camac c → OneOf (1 ∷ 2 ∷ 3 ∷ []) (tag_of the_type i) → A
-      by c (Camac x) q k = absurd (⊎_elim (λ e. omega arith) (⊎_elim (λ e. omega arith) (λ e. omega arith)) k)
-      by c (Jump t) q k = let z : ◌≡◌ {A = ℕ} 0 1 = cc in absurd (omega arith)
-      by c (Literal v) q k = let z : ◌≡◌ {A = ℕ} 0 1 = cc in absurd (omega arith)
-      by c Halt q k = let z : ◌≡◌ {A = ℕ} 0 1 = cc in absurd (omega arith)
+      → ((x : Command) → i ≡ Camac x → ⊥) → A
+  no_other i e k = let d = decoded i e in absurd (k d.0 d.1.0)

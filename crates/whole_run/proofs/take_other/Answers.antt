@@ -19,7 +19,7 @@ bounds-table-k c =
 pub returns-in_default : goal.returns-in_default
 returns-in_default c =
     let p = c.requires in
-    no_other _ _ _ _ p.0 _ p.1.1.0 p.1.1.1 _ c.instruction_at-i.ensures c.in_default.keys2
+    no_other _ _ _ _ p.0 _ p.1.1.0 p.1.1.1 _ c.instruction_at-i.ensures c.in_default.not-Camac
 
 pub reply_at-reply-requires : goal.reply_at-reply-requires
 reply_at-reply-requires c =

@@ -16,7 +16,7 @@ bounds-table-k c = omega (arith, (c.requires c.if-last.false).0)
 pub returns-in_default : goal.returns-in_default
 returns-in_default c =
     c.no_operation-in_default.ensures ∙ wanted_none _ _ _ _ c.if-last.false _ c.instruction_at-i.ensures
-    c.in_default.keys2
+    c.in_default.not-Camac
 
 pub operation_of-requires : goal.operation_of-requires
 operation_of-requires c =
