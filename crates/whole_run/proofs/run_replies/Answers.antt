@@ -37,11 +37,9 @@ shape_of-incoming-then-r c =
 
 pub returns-then-r : goal.returns-then-r
 returns-then-r c =
-    let count = length c.args.row.now / 8 in let x = c.run_answers-stop.ensures.0 in
+    let x = c.run_answers-stop.ensures.0 in
     moves_last _ _ (moves_as _ _ c.record_of-r.ensures refl (moves_on _ _ c.loop-k.invariant.0 x))
-    (⊎_elim (λ t. inl t.taken)
-    (λ t. inr (formed_last _ _ x.formed (omega (arith, eqb-true c.run_answers-stop.result.stay.taken count t.2.taken))))
-    c.then-r.branch)
+    (⊎_elim (λ t. inl t) (λ t. inr (formed_last _ _ x.formed (omega (arith, t.1)))) c.then-r.either)
 
 pub overflow_mul-stay : goal.overflow_mul-stay
 overflow_mul-stay c =
@@ -49,7 +47,7 @@ overflow_mul-stay c =
 
 pub take_other-here-requires : goal.take_other-here-requires
 take_other-here-requires c =
-    let fewer : c.run_answers-stop.result.stay.taken ≡ length c.args.row.now / 8 → ⊥ = eqb-false _ _ c.if-stay-count.false in
+    let fewer : c.run_answers-stop.result.stay.taken ≡ length c.args.row.now / 8 → ⊥ = c.if-stay-count.false in
     let m = moves_as _ _ c.record_of-r.ensures refl (moves_on _ _ c.loop-k.invariant.0 c.run_answers-stop.ensures.0) in (
       grounds_at (c.run_answers-stop.auto.incoming ∙ c.loop-k.invariant.1) c.requires.0,
       ((m.formed, omega (arith, m.formed.within)), (m.stage, c.if-r.false)),

@@ -10,23 +10,6 @@ use Rattle.whole_run.proofs.WholeRun.{whole_refused, grounds, whole_unformed, st
 use Rattle.whole_run.proofs.Turns.{grounds_at}
 use Rattle.whole_run.proofs.run_row.Goals as goal
 
--- the list is ready
-module _ (a : tie.After-prepared) where
-  abbrev at-prepare : tie.After-prepare
-  at-prepare = a.before.before.before
-
-  abbrev start : tie.Start
-  start = at-prepare.before.before.before.before.before.before
-
-  ready : PreparedFor start.args.list.now at-prepare.prepare.last.1.0 a.prepared.given.0.0.sizes a.prepared.given.0.0.counts
-      (length start.args.incoming.now) (length start.args.outgoing.now)
-  ready = prepared_ready _ _ _ _ at-prepare.prepare.ensures.0 _ at-prepare.prepare.ensures.1 _ a.prepared.given.1
-      (λ i. omega (arith, at-prepare.before.before.before.before.before.shared_slice_known.given i)) at-prepare.prepare.kept.1.0
-
--- and the row is formed
-answered : (a : tie.After-read) → Answered (start a.before.before.before.before).args.row.now a.read.given.0.0
-answered a = subst (ReadAs (start a.before.before.before.before).args.row.now) a.read.given.1 a.before.before.read_row.ensures
-
 pub returns-in_default : goal.returns-in_default
 returns-in_default c =
     whole_refused _ _ c.args.outgoing.now c.args.row.now _ _ _ _ c.prepare-prepared.ensures.0
@@ -34,12 +17,20 @@ returns-in_default c =
 
 pub returns-in_default-read : goal.returns-in_default-read
 returns-in_default-read c =
-    whole_unformed _ _ _ (start c).args.row.now _ _ _ (ready c) _
-    (subst (ReadAs (start c).args.row.now) c.in_default-read.is c.read_row-read.ensures) c.refused_run-in_default-read.ensures
+    let ready : PreparedFor c.args.list.now c.prepare-prepared.new.table c.in-Ready.plan.sizes c.in-Ready.plan.counts
+          (length c.args.incoming.now) (length c.args.outgoing.now) =
+        prepared_ready _ _ _ _ c.prepare-prepared.ensures.0 _ c.prepare-prepared.ensures.1 _ c.in-Ready.is
+        (λ i. omega (arith, c.shared_slice_known-1.given i)) c.prepare-prepared.auto.table in
+    whole_unformed _ _ _ c.args.row.now _ _ _ ready _
+    (subst (ReadAs c.args.row.now) c.in_default-read.is c.read_row-read.ensures) c.refused_run-in_default-read.ensures
 
 pub run_on-first-requires : goal.run_on-first-requires
 run_on-first-requires c =
-    let x = ready c in (
+    let ready : PreparedFor c.args.list.now c.prepare-prepared.new.table c.in-Ready.plan.sizes c.in-Ready.plan.counts
+          (length c.args.incoming.now) (length c.args.outgoing.now) =
+        prepared_ready _ _ _ _ c.prepare-prepared.ensures.0 _ c.prepare-prepared.ensures.1 _ c.in-Ready.is
+        (λ i. omega (arith, c.shared_slice_known-1.given i)) c.prepare-prepared.auto.table in
+    let x = ready in (
       omega (arith, x.entries, x.planned.few),
       (
         x.planned.few,
@@ -51,23 +42,36 @@ run_on-first-requires c =
     )
 
 pub slice_bounds-run_replies-end : goal.slice_bounds-run_replies-end
-slice_bounds-run_replies-end c = omega (arith, c.prepare-prepared.auto.table)
+slice_bounds-run_replies-end c =
+    omega (arith, c.prepare-prepared.auto.table)
 
 pub run_replies-v-requires : goal.run_replies-v-requires
 run_replies-v-requires c =
+    let ready : PreparedFor c.args.list.now c.prepare-prepared.new.table c.in-Ready.plan.sizes c.in-Ready.plan.counts
+          (length c.args.incoming.now) (length c.args.outgoing.now) =
+        prepared_ready _ _ _ _ c.prepare-prepared.ensures.0 _ c.prepare-prepared.ensures.1 _ c.in-Ready.is
+        (λ i. omega (arith, c.shared_slice_known-1.given i)) c.prepare-prepared.auto.table in
+    let answered : Answered c.args.row.now c.in-Answers.answers =
+        subst (ReadAs c.args.row.now) c.in-Answers.is c.read_row-read.ensures in
     (
       grounds_at c.run_on-first.auto.incoming
-          (grounds _ (start c).args.incoming.now (start c).args.outgoing.now (start c).args.row.now _ _ _ (ready c)),
+          (grounds _ c.args.incoming.now c.args.outgoing.now c.args.row.now _ _ _ ready),
       (
         start_stage _
-            (start c).args.incoming.now (start c).args.outgoing.now (start c).args.row.now _ _ _ (ready c) _ _ _ c.zero_record.ensures
+            c.args.incoming.now c.args.outgoing.now c.args.row.now _ _ _ ready _ _ _ c.zero_record.ensures
             (λ out. rw c.first_spot.ensures at (c.run_on-first.ensures.0 out)),
-        answered c,
+        answered,
       ),
     )
 
 pub returns : goal.returns
 returns c =
-    whole_run _ _ _ (start c).args.row.now _ _ _ (ready c) _ _ _ c.zero_record.ensures
-    (λ out. rw c.first_spot.ensures at (c.run_on-first.ensures.0 out)) (answered c).formed _ _ _
+    let ready : PreparedFor c.args.list.now c.prepare-prepared.new.table c.in-Ready.plan.sizes c.in-Ready.plan.counts
+          (length c.args.incoming.now) (length c.args.outgoing.now) =
+        prepared_ready _ _ _ _ c.prepare-prepared.ensures.0 _ c.prepare-prepared.ensures.1 _ c.in-Ready.is
+        (λ i. omega (arith, c.shared_slice_known-1.given i)) c.prepare-prepared.auto.table in
+    let answered : Answered c.args.row.now c.in-Answers.answers =
+        subst (ReadAs c.args.row.now) c.in-Answers.is c.read_row-read.ensures in
+    whole_run _ _ _ c.args.row.now _ _ _ ready _ _ _ c.zero_record.ensures
+    (λ out. rw c.first_spot.ensures at (c.run_on-first.ensures.0 out)) answered.formed _ _ _
     c.run_replies-v.ensures

@@ -36,13 +36,13 @@ pub resume-requires : goal.resume-requires
 resume-requires c =
     let p = c.requires in
     let al = decoded_as _ _ _ _ p.0 _ p.1.1.0 p.1.1.1 _ c.instruction_at-i.ensures _ c.in-Camac.is in
-    let taken = c.take_here-taken.ensures.record in (
+    (
       omega (arith, p.0.prepared.entries, p.0.prepared.planned.few),
       (
         p.0.prepared.planned.few,
         (
           p.0.prepared.planned.right,
-          going _ _ _ _ p.0 _ _ al _ _ _ taken.1 _ taken.0 c.take_here-taken.auto.incoming,
+          going _ _ _ _ p.0 _ _ al _ _ _ c.take_here-taken.ensures.bytes _ c.take_here-taken.ensures.record c.take_here-taken.auto.incoming,
         ),
       ),
     )
@@ -51,6 +51,5 @@ pub returns : goal.returns
 returns c =
     let p = c.requires in
     let al = decoded_as _ _ _ _ p.0 _ p.1.1.0 p.1.1.1 _ c.instruction_at-i.ensures _ c.in-Camac.is in
-    let taken = c.take_here-taken.ensures.record in
-    moves _ _ _ _ p.0 _ _ al _ _ _ taken.1 _ taken.0 _ _ p.1.0.0 p.1.0.1 c.reply_at-reply.ensures _ _
+    moves _ _ _ _ p.0 _ _ al _ _ _ c.take_here-taken.ensures.bytes _ c.take_here-taken.ensures.record _ _ p.1.0.0 p.1.0.1 c.reply_at-reply.ensures _ _
     c.resume.ensures

@@ -8,7 +8,7 @@ use Rattle.whole_run.proofs.along.run_answers.Given as goal
 
 abbrev pub invariant-loop-here : goal.invariant-loop-here
 invariant-loop-here l =
-    (r : Record) → let z : Run = record { l.list = l.list; l.table = l.table; l.sizes = l.sizes; l.row = l.row; before = r; l.from = l.from; buffer = l.initial.incoming } in
+    (r : Record) → let z : Run = record { list = l.list; table = l.table; sizes = l.sizes; row = l.row; before = r; from = l.from; buffer = l.initial.incoming } in
     BeforeWord z l.initial.longword l.initial.spot l.initial.here l.initial.incoming → BeforeWord z l.longword l.spot l.here l.incoming
 
 abbrev pub decreases-loop-here : goal.decreases-loop-here
