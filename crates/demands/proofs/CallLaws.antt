@@ -19,11 +19,12 @@ use Rattle.demands.proofs.LayoutLaws.{Limits}
 
 -- One demand -------------------------------------------------------------------------------------------------------------
 
-module _ (q : List ℕ) {n : ℕ} (e : n ≡ waiting_number q) where
-  pub added_full : (d : Demand) → n ≡ 2048 → with_mark 1 q ≡ added_to q d
-  unfolding added_to
-  added_full d h = rw (eq-eqb (waiting_number q) 2048 (omega (arith, e, h)))
+-- `add_one` names this in its `tactic`, and no answer does: the name of the goal there holds the number 2048, which edits change
+pub added_full : (q : List ℕ) (d : Demand) → waiting_number q ≡ 2048 → added_to q d ≡ with_mark 1 q
+unfolding added_to
+added_full q d h = rw (eq-eqb (waiting_number q) 2048 h)
 
+module _ (q : List ℕ) {n : ℕ} (e : n ≡ waiting_number q) where
   pub added_room : (d : Demand) {f : ℕ} → f ≡ first_in q → ¬ (n ≡ 2048)
       → with_waiting (n + 1) (set (set q (cell_of (f + n) * 2) d.crate_number) (cell_of (f + n) * 2 + 1) d.sgl) ≡ added_to q d
   unfolding added_to with_demand

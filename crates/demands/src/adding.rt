@@ -28,6 +28,7 @@ pub fn is_row(row: &[u8]) -> bool
 }
 
 // Behind those that wait, round behind the last cell; dropped where 2,048 wait.
+#[tactic(auto, using(crate::proofs::CallLaws::added_full))]
 pub fn add_one(queue: &mut [u8], demand: Demand)
     requires { is_queue queue.old ≡ true }
     ensures { queue.new ≡ added_to queue.old demand }

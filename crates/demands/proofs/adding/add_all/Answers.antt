@@ -1,5 +1,4 @@
 -- `add_all` adds demand by demand. The loop's invariant: the demands from here on, added to this queue, leave what the row leaves.
-use Prim.Native.Nat.{◌-◌}
 use mathlib.Core.Path.{refl, ◌∙◌}
 use native.Mathlib.Omega.{arith}
 use Rattle.demands.proofs.RowLaws.{adding_none, adding_next, adding_end}
@@ -29,7 +28,7 @@ loop-at-smaller c = omega arith
 pub loop-at-preserved : goal.loop-at-preserved
 loop-at-preserved c =
     let k = c.loop-at.invariant in
-    (adding_next k.0 (omega (arith, k.0.whole, c.requires.1)) c.add_one.ensures, c.add_one.auto.0 ∙ k.1)
+    (adding_next k.0 (omega (arith, k.0.whole, c.requires.1)) c.add_one.ensures, c.add_one.auto.queue ∙ k.1)
 
 pub shape_of-queue : goal.shape_of-queue
 shape_of-queue c = c.loop-at.invariant.1

@@ -3,7 +3,7 @@ use mathlib.Core.Path.{refl, ◌∙◌}
 use native.Mathlib.Omega.{arith}
 use lib.ListN.{length-set}
 use Rattle.demands.proofs.LayoutLaws.{limits}
-use Rattle.demands.proofs.CallLaws.{added_full, added_room}
+use Rattle.demands.proofs.CallLaws.{added_room}
 use Rattle.demands.proofs.adding.add_one.Goals as goal
 
 pub waiting_in-n-requires : goal.waiting_in-n-requires
@@ -11,9 +11,6 @@ waiting_in-n-requires c = (limits _ c.requires).long
 
 pub bounds-queue-4100 : goal.bounds-queue-4100
 bounds-queue-4100 c = omega (arith, (limits _ c.requires).long)
-
-pub returns-then-n-eq2048 : goal.returns-then-n-eq2048
-returns-then-n-eq2048 c = added_full _ c.waiting_in-n.ensures.0 c.args.demand c.if-n-eq2048.true
 
 pub first_in-requires : goal.first_in-requires
 first_in-requires c = (limits _ c.requires).long
@@ -27,12 +24,12 @@ bounds-queue-at-2 c = simp length-set (omega (arith, (limits _ c.requires).long)
 pub set_waiting-requires : goal.set_waiting-requires
 set_waiting-requires c =
     let l = limits _ c.requires in
-    (simp length-set l.long, omega (arith, c.waiting_in-n.ensures.0, l.waiting_most, c.if-n-eq2048.false))
+    (simp length-set l.long, omega (arith, l.waiting_most))
 
 pub shape_of-queue : goal.shape_of-queue
-shape_of-queue c = c.set_waiting.auto.0 ∙ simp length-set refl
+shape_of-queue c = c.set_waiting.auto.queue ∙ simp length-set refl
 
 pub returns : goal.returns
 returns c =
     c.set_waiting.ensures
-    ∙ added_room _ c.waiting_in-n.ensures.0 c.args.demand c.first_in.ensures.0 c.if-n-eq2048.false
+    ∙ added_room _ c.waiting_in-n.ensures.0 c.args.demand c.first_in.ensures.0 (λ full. omega arith)

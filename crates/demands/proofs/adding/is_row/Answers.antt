@@ -1,5 +1,4 @@
 -- `is_row` is `is_row`. The loop's invariant: the demands so far, and those from here on, come out as the whole row.
-use Prim.Native.Nat.{◌-◌}
 use native.Mathlib.Omega.{arith}
 use Rattle.demands.proofs.RowLaws.{judging_none, judging_next, judging_end, odd_row}
 use Rattle.demands.proofs.adding.is_row.Goals as goal

@@ -17,7 +17,9 @@ pub waiting_in-n-requires : goal.waiting_in-n-requires
 waiting_in-n-requires c = (limits _ c.requires).long
 
 pub returns-then-n-eq0 : goal.returns-then-n-eq0
-returns-then-n-eq0 c = parts (taken_none _ c.waiting_in-n.ensures.0 c.if-n-eq0.true)
+returns-then-n-eq0 c =
+    let p = parts (taken_none _ c.waiting_in-n.ensures.0 c.if-n-eq0.true) in
+    record { next = p.0; bytes = p.1 }
 
 pub first_in-at-requires : goal.first_in-at-requires
 first_in-at-requires c = (limits _ c.requires).long
@@ -38,12 +40,14 @@ set_waiting-requires c =
     (l.long, omega (arith, l.waiting_most, c.waiting_in-n.ensures.0))
 
 pub set_first-requires : goal.set_first-requires
-set_first-requires c = (c.set_waiting.auto.0 ∙ (limits _ c.requires).long, omega arith)
+set_first-requires c = (c.set_waiting.auto.queue ∙ (limits _ c.requires).long, omega arith)
 
 pub shape_of-queue : goal.shape_of-queue
-shape_of-queue c = c.set_first.auto.0 ∙ c.set_waiting.auto.0
+shape_of-queue c = c.set_first.auto.queue ∙ c.set_waiting.auto.queue
 
 pub returns : goal.returns
 returns c =
+    let p =
     parts (taken_one _ c.waiting_in-n.ensures.0 (limits _ c.requires) c.first_in-at.ensures.0 c.if-n-eq0.false
-    ∙ ap (leaving _) (sym (c.set_first.ensures ∙ ap (with_first _) c.set_waiting.ensures)))
+    ∙ ap (leaving _) (sym (c.set_first.ensures ∙ ap (with_first _) c.set_waiting.ensures))) in
+    record { next = p.0; bytes = p.1 }

@@ -1,14 +1,12 @@
 -- `check` finds the first longword that does not pass. The loop's invariant: the check from here on comes out as that of the whole row.
-use Prim.Native.Nat.{◌-◌}
 use mathlib.Core.Path.{sym, ap, ◌∙◌}
 use native.Mathlib.Omega.{arith}
-use borrow.Author.Tests.{not-true}
 use Rattle.scalers.specs.Scalers.{is_bad}
 use Rattle.scalers.proofs.Loops.{checking_none, checking_bad, checking_next, checking_end}
 use Rattle.scalers.proofs.rows.check.Goals as goal
 
 pub returns-then-not-is_any_bad : goal.returns-then-not-is_any_bad
-returns-then-not-is_any_bad c = sym (c.is_any_bad.ensures (not-true _ c.if-not-is_any_bad.true))
+returns-then-not-is_any_bad c = sym (c.is_any_bad.ensures c.if-not-is_any_bad.true)
 
 pub loop-at-init : goal.loop-at-init
 loop-at-init c = checking_none _ _

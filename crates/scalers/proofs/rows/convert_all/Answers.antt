@@ -1,5 +1,4 @@
 -- `convert_all` converts longword by longword. The loop's invariant: what lies before is converted, and converting the rest gives the row converted whole.
-use Prim.Native.Nat.{◌-◌}
 use mathlib.Core.Path.{ap, ◌∙◌}
 use native.Mathlib.Omega.{arith}
 use Rattle.scalers.specs.Scalers.{is_bad}
@@ -25,7 +24,7 @@ overflow_add-at c = let i = c.loop-at.invariant in omega (arith, i.whole, i.as_l
 
 pub loop-at-smaller : goal.loop-at-smaller
 loop-at-smaller c =
-    omega (arith, c.put_long.auto.0)
+    omega (arith, c.put_long.auto.bytes)
 
 pub loop-at-preserved : goal.loop-at-preserved
 loop-at-preserved c =

@@ -1,5 +1,4 @@
 -- `is_any_bad` says no only of a row that passes. The loop's invariant: while none is found, the check from here on comes out as that of the whole row.
-use Prim.Native.Nat.{◌-◌}
 use mathlib.Core.Path.{refl, sym, ap, ◌∙◌}
 use native.Mathlib.Omega.{arith}
 use Rattle.base.proofs.Bools.{or_false_left, or_false_right}
