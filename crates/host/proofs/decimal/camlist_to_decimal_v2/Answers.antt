@@ -4,9 +4,7 @@ use Rattle.host.specs.Numbers.{refusal_numbers}
 use Rattle.host.proofs.decimal.camlist_to_decimal_v2.Goals as goal
 
 pub returns : goal.returns
-returns c =
-    let converted = c.to_decimal.ensures.answer in
-    record {
-  answer = c.refusal_numbers.ensures ∙ ap refusal_numbers converted.0;
-  row = converted.1;
+returns c = record {
+  answer = c.refusal_numbers.ensures ∙ ap refusal_numbers c.to_decimal.ensures.answer;
+  row = c.to_decimal.ensures.bytes;
 }

@@ -4,9 +4,7 @@ use Rattle.host.specs.Numbers.{queued_numbers}
 use Rattle.host.proofs.queue.camlist_demand_row_v2.Goals as goal
 
 pub returns : goal.returns
-returns c =
-    let called = c.add_row.ensures.answer in
-    record {
-  answer = c.queued_numbers.ensures ∙ ap queued_numbers called.0;
-  queue = called.1;
+returns c = record {
+  answer = c.queued_numbers.ensures ∙ ap queued_numbers c.add_row.ensures.answer;
+  queue = c.add_row.ensures.bytes;
 }

@@ -4,9 +4,7 @@ use Rattle.host.specs.Numbers.{taken_numbers}
 use Rattle.host.proofs.queue.camlist_demand_take_v2.Goals as goal
 
 pub returns : goal.returns
-returns c =
-    let called = c.take.ensures.answer in
-    record {
-  answer = c.taken_numbers.ensures ∙ ap₂ taken_numbers called.0 called.1.0;
-  queue = called.1.1;
+returns c = record {
+  answer = c.taken_numbers.ensures ∙ ap₂ taken_numbers c.take.ensures.answer c.take.ensures.next;
+  queue = c.take.ensures.bytes;
 }
