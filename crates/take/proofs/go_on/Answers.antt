@@ -14,30 +14,30 @@ moved_record-moved-requires c =
 pub returns-then-left-eq0 : goal.returns-then-left-eq0
 returns-then-left-eq0 c =
     record {
-  «record» = is_through _ _ _ c.if-done.true c.qmode_of-q.ensures c.left_after-left.ensures
+      «record» = is_through _ _ _ c.if-done.true c.qmode_of-q.ensures c.left_after-left.ensures
           c.moved_record-moved.ensures c.if-left-eq0.true;
-  bytes = rw c.if-done.true c.store_by.ensures;
-}
+      bytes = rw c.if-done.true c.store_by.ensures;
+    }
 
 pub returns-then-done : goal.returns-then-done
 returns-then-done c =
     record {
-  «record» = rw c.wait_on.ensures (is_same _ _ _ c.if-done.true c.qmode_of-q.ensures c.left_after-left.ensures
+      «record» = rw c.wait_on.ensures (is_same _ _ _ c.if-done.true c.qmode_of-q.ensures c.left_after-left.ensures
           c.moved_record-moved.ensures c.tries_after-tries.ensures c.position_after.ensures c.if-left-eq0.false);
-  bytes = rw c.if-done.true c.store_by.ensures;
-}
+      bytes = rw c.if-done.true c.store_by.ensures;
+    }
 
 pub returns-then-left-eq0-2 : goal.returns-then-left-eq0-2
 returns-then-left-eq0-2 c =
     record {
-  «record» = is_through _ _ _ c.if-done.false c.qmode_of-q.ensures c.left_after-left-2.ensures refl c.if-left-eq0-2.true;
-  bytes = rw c.if-done.false;
-}
+      «record» = is_through _ _ _ c.if-done.false c.qmode_of-q.ensures c.left_after-left-2.ensures refl c.if-left-eq0-2.true;
+      bytes = rw c.if-done.false;
+    }
 
 pub returns : goal.returns
 returns c =
     record {
-  «record» = rw c.wait_on-2.ensures (is_same _ _ _ c.if-done.false c.qmode_of-q.ensures
+      «record» = rw c.wait_on-2.ensures (is_same _ _ _ c.if-done.false c.qmode_of-q.ensures
           c.left_after-left-2.ensures refl c.tries_after-tries-2.ensures c.position_after-2.ensures c.if-left-eq0-2.false);
-  bytes = rw c.if-done.false;
-}
+      bytes = rw c.if-done.false;
+    }

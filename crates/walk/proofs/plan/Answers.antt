@@ -19,10 +19,9 @@ returns-in_default-walked c =
     c.in_default-walked.is)
 
 pub returns : goal.returns
-returns c =
-    (
-      plan_ready _ _ c.check_list-checked.ensures.0 _ c.in-Passed.is _ c.walk-walked.ensures _
-          c.in-Halted.is,
-      planned _ _ _ _ c.in-Passed.is c.check_list-checked.ensures.1 _ c.walk-walked.ensures _
-          c.in-Halted.is,
-    )
+returns c = (
+  plan_ready _ _ c.check_list-checked.ensures.0 _ c.in-Passed.is _ c.walk-walked.ensures _
+      c.in-Halted.is,
+  planned _ _ _ _ c.in-Passed.is c.check_list-checked.ensures.1 _ c.walk-walked.ensures _
+      c.in-Halted.is,
+)

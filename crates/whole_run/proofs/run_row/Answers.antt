@@ -18,18 +18,18 @@ returns-in_default c =
 pub returns-in_default-read : goal.returns-in_default-read
 returns-in_default-read c =
     let ready : PreparedFor c.args.list.now c.prepare-prepared.new.table c.in-Ready.plan.sizes c.in-Ready.plan.counts
-          (length c.args.incoming.now) (length c.args.outgoing.now) =
-        prepared_ready _ _ _ _ c.prepare-prepared.ensures.0 _ c.prepare-prepared.ensures.1 _ c.in-Ready.is
-        (λ i. omega (arith, c.shared_slice_known-1.given i)) c.prepare-prepared.auto.table in
+    (length c.args.incoming.now) (length c.args.outgoing.now) =
+    prepared_ready _ _ _ _ c.prepare-prepared.ensures.0 _ c.prepare-prepared.ensures.1 _ c.in-Ready.is
+    (λ i. omega (arith, c.shared_slice_known-1.given i)) c.prepare-prepared.auto.table in
     whole_unformed _ _ _ c.args.row.now _ _ _ ready _
     (subst (ReadAs c.args.row.now) c.in_default-read.is c.read_row-read.ensures) c.refused_run-in_default-read.ensures
 
 pub run_on-first-requires : goal.run_on-first-requires
 run_on-first-requires c =
     let ready : PreparedFor c.args.list.now c.prepare-prepared.new.table c.in-Ready.plan.sizes c.in-Ready.plan.counts
-          (length c.args.incoming.now) (length c.args.outgoing.now) =
-        prepared_ready _ _ _ _ c.prepare-prepared.ensures.0 _ c.prepare-prepared.ensures.1 _ c.in-Ready.is
-        (λ i. omega (arith, c.shared_slice_known-1.given i)) c.prepare-prepared.auto.table in
+    (length c.args.incoming.now) (length c.args.outgoing.now) =
+    prepared_ready _ _ _ _ c.prepare-prepared.ensures.0 _ c.prepare-prepared.ensures.1 _ c.in-Ready.is
+    (λ i. omega (arith, c.shared_slice_known-1.given i)) c.prepare-prepared.auto.table in
     let x = ready in (
       omega (arith, x.entries, x.planned.few),
       (
@@ -48,12 +48,11 @@ slice_bounds-run_replies-end c =
 pub run_replies-v-requires : goal.run_replies-v-requires
 run_replies-v-requires c =
     let ready : PreparedFor c.args.list.now c.prepare-prepared.new.table c.in-Ready.plan.sizes c.in-Ready.plan.counts
-          (length c.args.incoming.now) (length c.args.outgoing.now) =
-        prepared_ready _ _ _ _ c.prepare-prepared.ensures.0 _ c.prepare-prepared.ensures.1 _ c.in-Ready.is
-        (λ i. omega (arith, c.shared_slice_known-1.given i)) c.prepare-prepared.auto.table in
+    (length c.args.incoming.now) (length c.args.outgoing.now) =
+    prepared_ready _ _ _ _ c.prepare-prepared.ensures.0 _ c.prepare-prepared.ensures.1 _ c.in-Ready.is
+    (λ i. omega (arith, c.shared_slice_known-1.given i)) c.prepare-prepared.auto.table in
     let answered : Answered c.args.row.now c.in-Answers.answers =
-        subst (ReadAs c.args.row.now) c.in-Answers.is c.read_row-read.ensures in
-    (
+    subst (ReadAs c.args.row.now) c.in-Answers.is c.read_row-read.ensures in (
       grounds_at c.run_on-first.auto.incoming
           (grounds _ c.args.incoming.now c.args.outgoing.now c.args.row.now _ _ _ ready),
       (
@@ -67,11 +66,11 @@ run_replies-v-requires c =
 pub returns : goal.returns
 returns c =
     let ready : PreparedFor c.args.list.now c.prepare-prepared.new.table c.in-Ready.plan.sizes c.in-Ready.plan.counts
-          (length c.args.incoming.now) (length c.args.outgoing.now) =
-        prepared_ready _ _ _ _ c.prepare-prepared.ensures.0 _ c.prepare-prepared.ensures.1 _ c.in-Ready.is
-        (λ i. omega (arith, c.shared_slice_known-1.given i)) c.prepare-prepared.auto.table in
+    (length c.args.incoming.now) (length c.args.outgoing.now) =
+    prepared_ready _ _ _ _ c.prepare-prepared.ensures.0 _ c.prepare-prepared.ensures.1 _ c.in-Ready.is
+    (λ i. omega (arith, c.shared_slice_known-1.given i)) c.prepare-prepared.auto.table in
     let answered : Answered c.args.row.now c.in-Answers.answers =
-        subst (ReadAs c.args.row.now) c.in-Answers.is c.read_row-read.ensures in
+    subst (ReadAs c.args.row.now) c.in-Answers.is c.read_row-read.ensures in
     whole_run _ _ _ c.args.row.now _ _ _ ready _ _ _ c.zero_record.ensures
     (λ out. rw c.first_spot.ensures at (c.run_on-first.ensures.0 out)) answered.formed _ _ _
     c.run_replies-v.ensures

@@ -35,8 +35,7 @@ take_here-taken-requires c =
 pub resume-requires : goal.resume-requires
 resume-requires c =
     let p = c.requires in
-    let al = decoded_as _ _ _ _ p.0 _ p.1.1.0 p.1.1.1 _ c.instruction_at-i.ensures _ c.in-Camac.is in
-    (
+    let al = decoded_as _ _ _ _ p.0 _ p.1.1.0 p.1.1.1 _ c.instruction_at-i.ensures _ c.in-Camac.is in (
       omega (arith, p.0.prepared.entries, p.0.prepared.planned.few),
       (
         p.0.prepared.planned.few,

@@ -7,7 +7,7 @@ pub returns : goal.returns
 returns c =
     let ran = c.run_row.ensures in
     record {
-  answer = c.run_numbers.ensures ∙ ap run_numbers ran.answer;
-  incoming = ran.incoming_bytes;
-  outgoing = ran.outgoing_bytes;
-}
+      answer = c.run_numbers.ensures ∙ ap run_numbers ran.answer;
+      incoming = ran.incoming_bytes;
+      outgoing = ran.outgoing_bytes;
+    }

@@ -8,8 +8,8 @@ use Rattle.host.proofs.entries.camlist_start_v2.Goals as goal
 pub returns : goal.returns
 returns c =
     let yields = c.start-y.ensures in record {
-  answer = c.call_numbers.ensures ∙ ap (λ (y : Yield). call_numbers y.refusal y.wanted) yields.answer;
-  «record» = c.record_numbers.ensures ∙ ap (λ (y : Yield). record_numbers y.run) yields.answer;
-  incoming = yields.incoming_bytes;
-  outgoing = yields.outgoing_bytes;
-}
+      answer = c.call_numbers.ensures ∙ ap (λ (y : Yield). call_numbers y.refusal y.wanted) yields.answer;
+      «record» = c.record_numbers.ensures ∙ ap (λ (y : Yield). record_numbers y.run) yields.answer;
+      incoming = yields.incoming_bytes;
+      outgoing = yields.outgoing_bytes;
+    }

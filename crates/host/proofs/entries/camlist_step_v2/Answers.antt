@@ -9,8 +9,8 @@ returns c =
     let all = step_leaves c.args.list.now c.args.«record».now c.args.incoming.now c.args.outgoing.now _
     c.record_of.ensures _ _ _ _ c.args.reply.now _ c.step-y.ensures c.call_numbers.ensures
     c.numbers_after.ensures in record {
-  answer = ap (λ (l : Leaving). l.answer) all;
-  «record» = ap (λ (l : Leaving). l.run) all;
-  incoming = ap (λ (l : Leaving). l.incoming) all;
-  outgoing = ap (λ (l : Leaving). l.outgoing) all;
-}
+      answer = ap (λ (l : Leaving). l.answer) all;
+      «record» = ap (λ (l : Leaving). l.run) all;
+      incoming = ap (λ (l : Leaving). l.incoming) all;
+      outgoing = ap (λ (l : Leaving). l.outgoing) all;
+    }

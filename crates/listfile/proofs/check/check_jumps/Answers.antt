@@ -34,12 +34,11 @@ pub loop-k-smaller : goal.loop-k-smaller
 loop-k-smaller c = omega arith
 
 pub loop-k-preserved : goal.loop-k-preserved
-loop-k-preserved c =
-    (
-      omega arith,
-      c.loop-k.invariant.1 ∙ jumps_more _ _ _ _ _ _ c.loop-k-test.true c.requires.1 refl
-          c.instruction_at.ensures (sym c.if-is_bad_target.false ∙ c.is_bad_target.ensures),
-    )
+loop-k-preserved c = (
+  omega arith,
+  c.loop-k.invariant.1 ∙ jumps_more _ _ _ _ _ _ c.loop-k-test.true c.requires.1 refl
+      c.instruction_at.ensures (sym c.if-is_bad_target.false ∙ c.is_bad_target.ensures),
+)
 
 pub returns : goal.returns
 returns c = c.loop-k.invariant.1 ∙ jumps_right _ _ _ c.loop-k-test.false

@@ -31,13 +31,12 @@ shape_of-table-in_default c =
     c.loop-at.invariant.6 ∙ sym c.requires.1
 
 pub returns-in_default : goal.returns-in_default
-returns-in_default c =
-    (
-      c.loop-at.invariant.0 ∙ pass_refused _ _ _ _ _ _ _ _ (omega arith)
-          c.loop-at-test.true c.read_at-field.ensures
-          c.in_default.is c.number_of.ensures,
-      tt,
-    )
+returns-in_default c = (
+  c.loop-at.invariant.0 ∙ pass_refused _ _ _ _ _ _ _ _ (omega arith)
+      c.loop-at-test.true c.read_at-field.ensures
+      c.in_default.is c.number_of.ensures,
+  tt,
+)
 
 pub next_place-next-requires : goal.next_place-next-requires
 next_place-next-requires c = omega arith

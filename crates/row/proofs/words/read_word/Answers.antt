@@ -21,11 +21,10 @@ overflow_add-result c =
     omega (arith, mark_narrow c.args.mark, rw c.if-wide.false at c.requires.0)
 
 pub returns-then-wide : goal.returns-then-wide
-returns-then-wide c =
-    (
-      c.mark_after.ensures.0 ∙ rw c.if-wide.true,
-      c.store.ensures ∙ rw (c.wide_at.ensures, c.if-wide.true),
-    )
+returns-then-wide c = (
+  c.mark_after.ensures.0 ∙ rw c.if-wide.true,
+  c.store.ensures ∙ rw (c.wide_at.ensures, c.if-wide.true),
+)
 
 pub returns-else-wide : goal.returns-else-wide
 returns-else-wide c =

@@ -7,8 +7,7 @@ pub returns-then-not-is_word_at : goal.returns-then-not-is_word_at
 returns-then-not-is_word_at c = (sym (c.if-not-is_word_at.true) ∙ c.is_word_at.ensures, refl)
 
 pub returns : goal.returns
-returns c =
-    (
-      sym (c.if-not-is_word_at.false) ∙ c.is_word_at.ensures,
-      c.put_long.ensures ∙ rw c.wide_at.ensures,
-    )
+returns c = (
+  sym (c.if-not-is_word_at.false) ∙ c.is_word_at.ensures,
+  c.put_long.ensures ∙ rw c.wide_at.ensures,
+)

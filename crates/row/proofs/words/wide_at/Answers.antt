@@ -23,8 +23,8 @@ overflow_add-result c =
     let flags = reply_flags row c.requires.1.0 k (omega arith) in
     let last = reply_top row c.requires.1.0 k (omega arith) in
     let sum : c.whole_at-word.result + get_or c.args.tops.now c.usize_of.result 0 ≡ longword_in row (k * 8) =
-        rw (c.whole_at-word.ensures, c.usize_of.ensures.0)
-        (wide_longword row (λ i. omega (arith, byte i)) (k * 8) c.args.tops.now c.requires.1.1 flags last) in
+    rw (c.whole_at-word.ensures, c.usize_of.ensures.0)
+    (wide_longword row (λ i. omega (arith, byte i)) (k * 8) c.args.tops.now c.requires.1.1 flags last) in
     omega (arith, sum, longword_below row (λ i. omega (arith, byte i)) (k * 8))
 
 pub returns : goal.returns

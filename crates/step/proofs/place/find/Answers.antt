@@ -23,21 +23,20 @@ bounds-table-k c =
     )
 
 pub turn_of-turn-requires : goal.turn_of-turn-requires
-turn_of-turn-requires c =
+turn_of-turn-requires c = (
+  c.requires.1.small,
+  (
+    words_few _ _ _ c.instruction_at-i.ensures,
     (
-      c.requires.1.small,
-      (
-        words_few _ _ _ c.instruction_at-i.ensures,
-        (
-          omega (
-            arith,
-            within _ _ _ c.loop-next.invariant.on,
-            c.requires.1.few,
-          ),
-          finding_below _ _ _ _ _ _ _ c.loop-next.invariant c.requires.1.below,
-        ),
+      omega (
+        arith,
+        within _ _ _ c.loop-next.invariant.on,
+        c.requires.1.few,
       ),
-    )
+      finding_below _ _ _ _ _ _ _ c.loop-next.invariant c.requires.1.below,
+    ),
+  ),
+)
 
 pub returns-in_default : goal.returns-in_default
 returns-in_default c =

@@ -10,13 +10,13 @@ use Rattle.walk.proofs.worst.after_field.Goals as goal
 pub worst_words-requires : goal.worst_words-requires
 worst_words-requires c =
     let few : c.words_at-words.result ≤ 2 ^ 32 =
-        omega (arith, command_few c.first_at-first.result (second_at c.args.list.now c.args.at), c.words_at-words.ensures) in
+    omega (arith, command_few c.first_at-first.result (second_at c.args.list.now c.args.at), c.words_at-words.ensures) in
     (c.requires.0, omega arith)
 
 pub added_by-requires : goal.added_by-requires
 added_by-requires c =
     let few : c.words_at-words.result ≤ 2 ^ 32 =
-        omega (arith, command_few c.first_at-first.result (second_at c.args.list.now c.args.at), c.words_at-words.ensures) in
+    omega (arith, command_few c.first_at-first.result (second_at c.args.list.now c.args.at), c.words_at-words.ensures) in
     (few, c.requires.1.1.1)
 
 pub returns : goal.returns

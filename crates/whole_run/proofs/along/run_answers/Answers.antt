@@ -30,57 +30,57 @@ pub visit-here-requires : goal.visit-here-requires
 visit-here-requires c =
     let p = c.requires in
     let run : Record → Run = λ r. record {
-          list = c.args.list.now;
-          table = c.args.table.now;
-          sizes = c.args.sizes;
-          row = c.args.row.now;
-          before = r;
-          from = c.args.from;
-          buffer = c.args.incoming.now;
-        } in
+      list = c.args.list.now;
+      table = c.args.table.now;
+      sizes = c.args.sizes;
+      row = c.args.row.now;
+      before = r;
+      from = c.args.from;
+      buffer = c.args.incoming.now;
+    } in
     let word : BeforeWord (run c.args.r) c.loop-here.longword c.loop-here.spot c.loop-here.here c.loop-here.incoming =
-        c.loop-here.invariant c.args.r (word_start p.0 p.1.1 p.1.0.0 p.1.0.1.0 p.1.0.1.1
-        (waiting p.0 p.1.0.1.0 p.1.0.1.1 c.usize_of_short.ensures) c.first_at-longword.ensures c.stay_of-here.ensures) in
+    c.loop-here.invariant c.args.r (word_start p.0 p.1.1 p.1.0.0 p.1.0.1.0 p.1.0.1.1
+    (waiting p.0 p.1.0.1.0 p.1.0.1.1 c.usize_of_short.ensures) c.first_at-longword.ensures c.stay_of-here.ensures) in
     (p.0.prepared.planned.small, (word.command.passes, word_roomy p.0 p.1.1 word), p.2)
 
 pub shape_of-incoming-then-here-ne0 : goal.shape_of-incoming-then-here-ne0
 shape_of-incoming-then-here-ne0 c =
     let p = c.requires in
     let run : Record → Run = λ r. record {
-          list = c.args.list.now;
-          table = c.args.table.now;
-          sizes = c.args.sizes;
-          row = c.args.row.now;
-          before = r;
-          from = c.args.from;
-          buffer = c.args.incoming.now;
-        } in
+      list = c.args.list.now;
+      table = c.args.table.now;
+      sizes = c.args.sizes;
+      row = c.args.row.now;
+      before = r;
+      from = c.args.from;
+      buffer = c.args.incoming.now;
+    } in
     let word : BeforeWord (run c.args.r) c.loop-here.longword c.loop-here.spot c.loop-here.here c.loop-here.incoming =
-        c.loop-here.invariant c.args.r (word_start p.0 p.1.1 p.1.0.0 p.1.0.1.0 p.1.0.1.1
-        (waiting p.0 p.1.0.1.0 p.1.0.1.1 c.usize_of_short.ensures) c.first_at-longword.ensures c.stay_of-here.ensures) in
+    c.loop-here.invariant c.args.r (word_start p.0 p.1.1 p.1.0.0 p.1.0.1.0 p.1.0.1.1
+    (waiting p.0 p.1.0.1.0 p.1.0.1.1 c.usize_of_short.ensures) c.first_at-longword.ensures c.stay_of-here.ensures) in
     let passed : Standing (run c.args.r) c.loop-here.spot c.visit-here.result c.visit-here.new.incoming
-          × (c.loop-here.here.taken + c.loop-here.here.left ≤ c.visit-here.result.taken + c.visit-here.result.left) =
-        words_passed p.0 p.1.1 word c.visit-here.ensures in
+    × (c.loop-here.here.taken + c.loop-here.here.left ≤ c.visit-here.result.taken + c.visit-here.result.left) =
+    words_passed p.0 p.1.1 word c.visit-here.ensures in
     passed.0.kept
 
 pub returns-then-here-ne0 : goal.returns-then-here-ne0
 returns-then-here-ne0 c =
     let p = c.requires in
     let run : Record → Run = λ r. record {
-          list = c.args.list.now;
-          table = c.args.table.now;
-          sizes = c.args.sizes;
-          row = c.args.row.now;
-          before = r;
-          from = c.args.from;
-          buffer = c.args.incoming.now;
-        } in
+      list = c.args.list.now;
+      table = c.args.table.now;
+      sizes = c.args.sizes;
+      row = c.args.row.now;
+      before = r;
+      from = c.args.from;
+      buffer = c.args.incoming.now;
+    } in
     let word : BeforeWord (run c.args.r) c.loop-here.longword c.loop-here.spot c.loop-here.here c.loop-here.incoming =
-        c.loop-here.invariant c.args.r (word_start p.0 p.1.1 p.1.0.0 p.1.0.1.0 p.1.0.1.1
-        (waiting p.0 p.1.0.1.0 p.1.0.1.1 c.usize_of_short.ensures) c.first_at-longword.ensures c.stay_of-here.ensures) in
+    c.loop-here.invariant c.args.r (word_start p.0 p.1.1 p.1.0.0 p.1.0.1.0 p.1.0.1.1
+    (waiting p.0 p.1.0.1.0 p.1.0.1.1 c.usize_of_short.ensures) c.first_at-longword.ensures c.stay_of-here.ensures) in
     let passed : Standing (run c.args.r) c.loop-here.spot c.visit-here.result c.visit-here.new.incoming
-          × (c.loop-here.here.taken + c.loop-here.here.left ≤ c.visit-here.result.taken + c.visit-here.result.left) =
-        words_passed p.0 p.1.1 word c.visit-here.ensures in
+    × (c.loop-here.here.taken + c.loop-here.here.left ≤ c.visit-here.result.taken + c.visit-here.result.left) =
+    words_passed p.0 p.1.1 word c.visit-here.ensures in
     let y = word_again word passed.0 c.if-here-ne0.true in
     (word_stop p.0 p.1.1 y, (y.stands.onward, omega (arith, word_position p.0 p.1.1 y)))
 
@@ -88,112 +88,112 @@ pub spot_after-requires : goal.spot_after-requires
 spot_after-requires c =
     let p = c.requires in
     let run : Record → Run = λ r. record {
-          list = c.args.list.now;
-          table = c.args.table.now;
-          sizes = c.args.sizes;
-          row = c.args.row.now;
-          before = r;
-          from = c.args.from;
-          buffer = c.args.incoming.now;
-        } in
+      list = c.args.list.now;
+      table = c.args.table.now;
+      sizes = c.args.sizes;
+      row = c.args.row.now;
+      before = r;
+      from = c.args.from;
+      buffer = c.args.incoming.now;
+    } in
     let word : BeforeWord (run c.args.r) c.loop-here.longword c.loop-here.spot c.loop-here.here c.loop-here.incoming =
-        c.loop-here.invariant c.args.r (word_start p.0 p.1.1 p.1.0.0 p.1.0.1.0 p.1.0.1.1
-        (waiting p.0 p.1.0.1.0 p.1.0.1.1 c.usize_of_short.ensures) c.first_at-longword.ensures c.stay_of-here.ensures) in
+    c.loop-here.invariant c.args.r (word_start p.0 p.1.1 p.1.0.0 p.1.0.1.0 p.1.0.1.1
+    (waiting p.0 p.1.0.1.0 p.1.0.1.1 c.usize_of_short.ensures) c.first_at-longword.ensures c.stay_of-here.ensures) in
     word_spot p.0 p.1.1 word
 
 pub reach-next-requires : goal.reach-next-requires
 reach-next-requires c =
     let p = c.requires in
     let run : Record → Run = λ r. record {
-          list = c.args.list.now;
-          table = c.args.table.now;
-          sizes = c.args.sizes;
-          row = c.args.row.now;
-          before = r;
-          from = c.args.from;
-          buffer = c.args.incoming.now;
-        } in
+      list = c.args.list.now;
+      table = c.args.table.now;
+      sizes = c.args.sizes;
+      row = c.args.row.now;
+      before = r;
+      from = c.args.from;
+      buffer = c.args.incoming.now;
+    } in
     let word : BeforeWord (run c.args.r) c.loop-here.longword c.loop-here.spot c.loop-here.here c.loop-here.incoming =
-        c.loop-here.invariant c.args.r (word_start p.0 p.1.1 p.1.0.0 p.1.0.1.0 p.1.0.1.1
-        (waiting p.0 p.1.0.1.0 p.1.0.1.1 c.usize_of_short.ensures) c.first_at-longword.ensures c.stay_of-here.ensures) in
+    c.loop-here.invariant c.args.r (word_start p.0 p.1.1 p.1.0.0 p.1.0.1.0 p.1.0.1.1
+    (waiting p.0 p.1.0.1.0 p.1.0.1.1 c.usize_of_short.ensures) c.first_at-longword.ensures c.stay_of-here.ensures) in
     let passed : Standing (run c.args.r) c.loop-here.spot c.visit-here.result c.visit-here.new.incoming
-          × (c.loop-here.here.taken + c.loop-here.here.left ≤ c.visit-here.result.taken + c.visit-here.result.left) =
-        words_passed p.0 p.1.1 word c.visit-here.ensures in
+    × (c.loop-here.here.taken + c.loop-here.here.left ≤ c.visit-here.result.taken + c.visit-here.result.left) =
+    words_passed p.0 p.1.1 word c.visit-here.ensures in
     (grounds_table p.0, rw c.spot_after.ensures (passed.0.behind c.if-here-ne0.false))
 
 pub shape_of-incoming-then-next : goal.shape_of-incoming-then-next
 shape_of-incoming-then-next c =
     let p = c.requires in
     let run : Record → Run = λ r. record {
-          list = c.args.list.now;
-          table = c.args.table.now;
-          sizes = c.args.sizes;
-          row = c.args.row.now;
-          before = r;
-          from = c.args.from;
-          buffer = c.args.incoming.now;
-        } in
+      list = c.args.list.now;
+      table = c.args.table.now;
+      sizes = c.args.sizes;
+      row = c.args.row.now;
+      before = r;
+      from = c.args.from;
+      buffer = c.args.incoming.now;
+    } in
     let word : BeforeWord (run c.args.r) c.loop-here.longword c.loop-here.spot c.loop-here.here c.loop-here.incoming =
-        c.loop-here.invariant c.args.r (word_start p.0 p.1.1 p.1.0.0 p.1.0.1.0 p.1.0.1.1
-        (waiting p.0 p.1.0.1.0 p.1.0.1.1 c.usize_of_short.ensures) c.first_at-longword.ensures c.stay_of-here.ensures) in
+    c.loop-here.invariant c.args.r (word_start p.0 p.1.1 p.1.0.0 p.1.0.1.0 p.1.0.1.1
+    (waiting p.0 p.1.0.1.0 p.1.0.1.1 c.usize_of_short.ensures) c.first_at-longword.ensures c.stay_of-here.ensures) in
     let passed : Standing (run c.args.r) c.loop-here.spot c.visit-here.result c.visit-here.new.incoming
-          × (c.loop-here.here.taken + c.loop-here.here.left ≤ c.visit-here.result.taken + c.visit-here.result.left) =
-        words_passed p.0 p.1.1 word c.visit-here.ensures in
+    × (c.loop-here.here.taken + c.loop-here.here.left ≤ c.visit-here.result.taken + c.visit-here.result.left) =
+    words_passed p.0 p.1.1 word c.visit-here.ensures in
     c.reach-next.auto.incoming ∙ passed.0.kept
 
 pub returns-then-next : goal.returns-then-next
 returns-then-next c =
     let p = c.requires in
     let run : Record → Run = λ r. record {
-          list = c.args.list.now;
-          table = c.args.table.now;
-          sizes = c.args.sizes;
-          row = c.args.row.now;
-          before = r;
-          from = c.args.from;
-          buffer = c.args.incoming.now;
-        } in
+      list = c.args.list.now;
+      table = c.args.table.now;
+      sizes = c.args.sizes;
+      row = c.args.row.now;
+      before = r;
+      from = c.args.from;
+      buffer = c.args.incoming.now;
+    } in
     let word : BeforeWord (run c.args.r) c.loop-here.longword c.loop-here.spot c.loop-here.here c.loop-here.incoming =
-        c.loop-here.invariant c.args.r (word_start p.0 p.1.1 p.1.0.0 p.1.0.1.0 p.1.0.1.1
-        (waiting p.0 p.1.0.1.0 p.1.0.1.1 c.usize_of_short.ensures) c.first_at-longword.ensures c.stay_of-here.ensures) in
+    c.loop-here.invariant c.args.r (word_start p.0 p.1.1 p.1.0.0 p.1.0.1.0 p.1.0.1.1
+    (waiting p.0 p.1.0.1.0 p.1.0.1.1 c.usize_of_short.ensures) c.first_at-longword.ensures c.stay_of-here.ensures) in
     let passed : Standing (run c.args.r) c.loop-here.spot c.visit-here.result c.visit-here.new.incoming
-          × (c.loop-here.here.taken + c.loop-here.here.left ≤ c.visit-here.result.taken + c.visit-here.result.left) =
-        words_passed p.0 p.1.1 word c.visit-here.ensures in
+    × (c.loop-here.here.taken + c.loop-here.here.left ≤ c.visit-here.result.taken + c.visit-here.result.left) =
+    words_passed p.0 p.1.1 word c.visit-here.ensures in
     let none : c.visit-here.result.left ≡ 0 = c.if-here-ne0.false in
     let reached : Reaches c.args.list.now c.args.table.now c.args.sizes.count (spot_after c.loop-here.spot) c.visit-here.result.marks
-          c.visit-here.new.incoming c.reach-next.result c.reach-next.new.incoming =
-        rw c.spot_after.ensures at c.reach-next.ensures in
+    c.visit-here.new.incoming c.reach-next.result c.reach-next.new.incoming =
+    rw c.spot_after.ensures at c.reach-next.ensures in
     standing_halt p.0 p.1.1 passed.0 none reached c.if-next.true c.leave.ensures
 
 pub arrive-here-requires : goal.arrive-here-requires
 arrive-here-requires c =
     let reached : Reaches c.args.list.now c.args.table.now c.args.sizes.count (spot_after c.loop-here.spot) c.visit-here.result.marks
-          c.visit-here.new.incoming c.reach-next.result c.reach-next.new.incoming =
-        rw c.spot_after.ensures at c.reach-next.ensures in
+    c.visit-here.new.incoming c.reach-next.result c.reach-next.new.incoming =
+    rw c.spot_after.ensures at c.reach-next.ensures in
     (reached.command c.if-next.false).passes
 
 pub loop-here-smaller : goal.loop-here-smaller
 loop-here-smaller c =
     let p = c.requires in
     let run : Record → Run = λ r. record {
-          list = c.args.list.now;
-          table = c.args.table.now;
-          sizes = c.args.sizes;
-          row = c.args.row.now;
-          before = r;
-          from = c.args.from;
-          buffer = c.args.incoming.now;
-        } in
+      list = c.args.list.now;
+      table = c.args.table.now;
+      sizes = c.args.sizes;
+      row = c.args.row.now;
+      before = r;
+      from = c.args.from;
+      buffer = c.args.incoming.now;
+    } in
     let word : BeforeWord (run c.args.r) c.loop-here.longword c.loop-here.spot c.loop-here.here c.loop-here.incoming =
-        c.loop-here.invariant c.args.r (word_start p.0 p.1.1 p.1.0.0 p.1.0.1.0 p.1.0.1.1
-        (waiting p.0 p.1.0.1.0 p.1.0.1.1 c.usize_of_short.ensures) c.first_at-longword.ensures c.stay_of-here.ensures) in
+    c.loop-here.invariant c.args.r (word_start p.0 p.1.1 p.1.0.0 p.1.0.1.0 p.1.0.1.1
+    (waiting p.0 p.1.0.1.0 p.1.0.1.1 c.usize_of_short.ensures) c.first_at-longword.ensures c.stay_of-here.ensures) in
     let passed : Standing (run c.args.r) c.loop-here.spot c.visit-here.result c.visit-here.new.incoming
-          × (c.loop-here.here.taken + c.loop-here.here.left ≤ c.visit-here.result.taken + c.visit-here.result.left) =
-        words_passed p.0 p.1.1 word c.visit-here.ensures in
+    × (c.loop-here.here.taken + c.loop-here.here.left ≤ c.visit-here.result.taken + c.visit-here.result.left) =
+    words_passed p.0 p.1.1 word c.visit-here.ensures in
     let none : c.visit-here.result.left ≡ 0 = c.if-here-ne0.false in
     let reached : Reaches c.args.list.now c.args.table.now c.args.sizes.count (spot_after c.loop-here.spot) c.visit-here.result.marks
-          c.visit-here.new.incoming c.reach-next.result c.reach-next.new.incoming =
-        rw c.spot_after.ensures at c.reach-next.ensures in
+    c.visit-here.new.incoming c.reach-next.result c.reach-next.new.incoming =
+    rw c.spot_after.ensures at c.reach-next.ensures in
     omega (
       arith,
       passed.1,
@@ -207,18 +207,18 @@ pub loop-here-preserved : goal.loop-here-preserved
 loop-here-preserved c =
     let p = c.requires in
     let run : Record → Run = λ r. record {
-          list = c.args.list.now;
-          table = c.args.table.now;
-          sizes = c.args.sizes;
-          row = c.args.row.now;
-          before = r;
-          from = c.args.from;
-          buffer = c.args.incoming.now;
-        } in
+      list = c.args.list.now;
+      table = c.args.table.now;
+      sizes = c.args.sizes;
+      row = c.args.row.now;
+      before = r;
+      from = c.args.from;
+      buffer = c.args.incoming.now;
+    } in
     let none : c.visit-here.result.left ≡ 0 = c.if-here-ne0.false in
     let reached : Reaches c.args.list.now c.args.table.now c.args.sizes.count (spot_after c.loop-here.spot) c.visit-here.result.marks
-          c.visit-here.new.incoming c.reach-next.result c.reach-next.new.incoming =
-        rw c.spot_after.ensures at c.reach-next.ensures in
+    c.visit-here.new.incoming c.reach-next.result c.reach-next.new.incoming =
+    rw c.spot_after.ensures at c.reach-next.ensures in
     λ r x.
     word_next p.0 p.1.1 (words_passed p.0 p.1.1 (c.loop-here.invariant r x) c.visit-here.ensures).0 none reached c.if-next.false
     c.arrive-here.ensures c.reach-next.auto.incoming

@@ -31,7 +31,7 @@ returns-in_default c =
 pub returns-in_default-read : goal.returns-in_default-read
 returns-in_default-read c =
     let fit : fits (plan_by c.args.list.now c.args.plan.sizes) c.args.r ≡ true =
-        (alive_by c.in-Waits.is c.record_fits-fitting.ensures).fit in
+    (alive_by c.in-Waits.is c.record_fits-fitting.ensures).fit in
     steps_by _ _ _ _ _ _ _ _ c.refuse_steps_by-in_default-read.ensures
     (steps_22 c.args.list.now c.args.incoming.now c.args.outgoing.now c.args.row.now c.args.r _ _ _ c.requires c.if-r.false fit
     (subst (ReadAs c.args.row.now) c.in_default-read.is c.read_row-read.ensures))
@@ -39,26 +39,26 @@ returns-in_default-read c =
 pub run_replies-v-requires : goal.run_replies-v-requires
 run_replies-v-requires c =
     let fit : fits (plan_by c.args.list.now c.args.plan.sizes) c.args.r ≡ true =
-        (alive_by c.in-Waits.is c.record_fits-fitting.ensures).fit in
+    (alive_by c.in-Waits.is c.record_fits-fitting.ensures).fit in
     let answered : Answered c.args.row.now c.in-Answers.answers =
-        subst (ReadAs c.args.row.now) c.in-Answers.is c.read_row-read.ensures in
+    subst (ReadAs c.args.row.now) c.in-Answers.is c.read_row-read.ensures in
     (grounds_here c.args.list.now c.args.incoming.now c.args.outgoing.now c.args.row.now c.args.r _ _ _ c.requires, (inr fit, answered))
 
 pub wanted_at-requires : goal.wanted_at-requires
 wanted_at-requires c =
     let fit : fits (plan_by c.args.list.now c.args.plan.sizes) c.args.r ≡ true =
-        (alive_by c.in-Waits.is c.record_fits-fitting.ensures).fit in
+    (alive_by c.in-Waits.is c.record_fits-fitting.ensures).fit in
     let answered : Answered c.args.row.now c.in-Answers.answers =
-        subst (ReadAs c.args.row.now) c.in-Answers.is c.read_row-read.ensures in
+    subst (ReadAs c.args.row.now) c.in-Answers.is c.read_row-read.ensures in
     last_asked c.args.list.now c.args.incoming.now c.args.outgoing.now c.args.row.now c.args.r _ _ _ c.requires c.if-r.false fit
     answered.formed _ _ _ c.run_replies-v.ensures
 
 pub returns : goal.returns
 returns c =
     let fit : fits (plan_by c.args.list.now c.args.plan.sizes) c.args.r ≡ true =
-        (alive_by c.in-Waits.is c.record_fits-fitting.ensures).fit in
+    (alive_by c.in-Waits.is c.record_fits-fitting.ensures).fit in
     let answered : Answered c.args.row.now c.in-Answers.answers =
-        subst (ReadAs c.args.row.now) c.in-Answers.is c.read_row-read.ensures in
+    subst (ReadAs c.args.row.now) c.in-Answers.is c.read_row-read.ensures in
     let v = c.run_replies-v.result in
     steps_by _ _ _ _ _ _ _ _
     (ap (λ (w : Operation). record { refusal = not_refused; taken = v.taken; run = v.run; wanted = w }) c.wanted_at.ensures)
