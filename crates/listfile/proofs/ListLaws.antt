@@ -4,7 +4,7 @@ use mathlib.Core.Path.{◌≡◌, refl, subst}
 use mathlib.Core.List.{List}
 use lib.ListN.{length}
 use Rattle.base.specs.Bytes.{short_at}
-use Rattle.listfile.specs.Fields.{first_fault, fields_from, fields, first_bad_jump, refused, program, after_first, program_of}
+use Rattle.listfile.specs.Fields.{first_fault, fields_from, first_bad_jump, refused, program, after_first, program_of}
 use Rattle.listfile.specs.model.Table.{first_fields, TableRight, Beyond, fields_by, TableBy, refusal_in, bad_jump_by}
 use Rattle.base.specs.declared.Refusal.{Refusal}
 use Rattle.listfile.specs.declared.check.Extent.{Extent}

@@ -16,7 +16,7 @@ use lib.ListN.{length, get_or, take, drop}
 use lib.Seq.{sets}
 use Rattle.base.specs.Bytes.{Bytes, byte_at, short_at, long_at, short_bytes, long_bytes}
 use Rattle.base.proofs.Bools.{and_left, and_right}
-use Rattle.base.proofs.Tests.{on, true_not_false}
+use Rattle.base.proofs.Tests.{true_not_false}
 use Rattle.packing.specs.Packing.{pad_at, aligned_mark, width_of, mark_after, mark_after_words, stored}
 use Rattle.packing.proofs.MarkFacts.{aligned_multiple, words_closed, stored_length, stored_narrow, stored_over}
 use Rattle.reply.specs.Replies.{has_form, reply_of, is_formed, replies_in, all_formed}

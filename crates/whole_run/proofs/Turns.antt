@@ -4,15 +4,14 @@ use Prim.Native.Nat.{ℕ, ◌+◌, ◌≤◌, ◌<◌}
 use mathlib.Core.Path.{◌≡◌, refl, sym, ap, ◌∙◌, subst}
 use mathlib.Core.Logic.{◌⊎◌, inl, inr}
 use mathlib.Core.Bool.{true, false, true≢false}
-use mathlib.Core.List.{List, [], ◌∷◌}
+use mathlib.Core.List.{List, []}
 use mathlib.Core.Option.{some}
-use native.Mathlib.Omega.{arith}
 use lib.ListN.{length, get_or, take, drop}
 use Rattle.camac.specs.declared.words.Command.{Command}
 use Rattle.listfile.specs.model.Table.{instruction_at}
 use Rattle.listfile.specs.declared.check.Sizes.{Sizes}
 use Rattle.listfile.specs.declared.field.Instruction.{Instruction}
-use Rattle.listfile.specs.declared.field.Instruction.TheVariants.{Camac, Jump, Literal, Halt}
+use Rattle.listfile.specs.declared.field.Instruction.TheVariants.{Camac}
 use Rattle.walk.specs.Walk.{spot_after, moved}
 use Rattle.walk.specs.Admission.{Plan}
 use Rattle.walk.specs.model.Sums.{rest_from, plan_by}

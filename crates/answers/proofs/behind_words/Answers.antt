@@ -2,7 +2,6 @@
 use mathlib.Core.Path.{sym, subst}
 use Rattle.answers.proofs.VisitRoom.{note_room}
 use Rattle.answers.specs.model.Visit.{NoteRoom, after_words}
-use borrow.Author.Rules.{rules}
 use Rattle.answers.proofs.behind_words.Goals as goal
 
 pub note_behind-requires : goal.note_behind-requires

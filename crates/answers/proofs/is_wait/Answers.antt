@@ -1,5 +1,4 @@
 -- `is_wait` says so only where each of the tests that it makes holds.
-use borrow.Author.Tests.{not-false}
 use mathlib.Core.Bool.{false≢true}
 use mathlib.Core.Path.{sym, ◌∙◌}
 use Rattle.answers.proofs.is_wait.Goals as goal

@@ -1,12 +1,6 @@
 -- `take_words` counts the words of an instruction, stores those that are read, and goes behind them.
-use Prim.Native.Nat.{ℕ, ◌%◌}
-use mathlib.Core.Path.{◌≡◌, refl}
-use mathlib.Core.Bool.{true}
-use lib.Bits.{bit_and}
-use lib.Dec.{eqb}
+use mathlib.Core.Path.{refl}
 use native.Mathlib.Omega.{arith}
-use borrow.Author.Rules.{rules}
-use Rattle.row.specs.model.Words.{flags_at}
 use Rattle.row.proofs.WordLaws.{first_word}
 use Rattle.answers.specs.model.Visit.{Words}
 use Rattle.answers.proofs.VisitRoom.{ahead_most, read_in, bytes_by_lem, some_words, words_with, read_mark, marks_to}

@@ -1,8 +1,7 @@
 -- `visit` takes a last word by itself, and passes all others in the loop.
-use mathlib.Core.Path.{◌≡◌, refl, sym, subst}
+use mathlib.Core.Path.{refl, sym, subst}
 use native.Mathlib.Omega.{arith}
-use borrow.Author.Rules.{rules}
-use Rattle.answers.specs.model.Visit.{rules_in, Words, none, Roomy}
+use Rattle.answers.specs.model.Visit.{Words, none, Roomy}
 use Rattle.answers.specs.declared.Rules.{Rules}
 use Rattle.answers.proofs.VisitRoom.{passed_as, words_with, words_turn}
 use Rattle.answers.proofs.visit.Goals as goal

@@ -1,9 +1,7 @@
 -- `visit_on` passes words and waits: the invariant is a derivation of what was passed, with the room that is left. Each turn takes a
 -- reply at least.
-use Prim.Native.Nat.{◌-◌}
 use mathlib.Core.Path.{refl, sym, ◌∙◌}
 use native.Mathlib.Omega.{arith}
-use borrow.Author.Tests.{not-false}
 use Rattle.answers.specs.model.Visit.{none}
 use Rattle.answers.proofs.VisitRoom.{one_word, words_turn, wait_turn, words_taken, wait_taken}
 use Rattle.answers.proofs.visit_on.Goals as goal

@@ -2,7 +2,6 @@
 -- reply at least.
 use Prim.Native.Nat.{◌-◌}
 use mathlib.Core.Path.{◌≡◌}
-use borrow.Author.Rules.{rules}
 use lib.ListN.{length}
 use Rattle.answers.specs.model.Visit.{Passed, Roomy}
 use Rattle.answers.proofs.visit_on.Given as goal

@@ -1,10 +1,9 @@
 -- `run_replies` is the run over the row. The loop's invariant: the run from the row's beginning is the run from the present place on, and the
 -- record has ended or fits. A turn of the loop runs over answers and takes one reply more.
-use Prim.Native.Nat.{◌-◌, ◌/◌}
+use Prim.Native.Nat.{◌/◌}
 use mathlib.Core.Path.{◌≡◌, refl, ◌∙◌}
 use mathlib.Core.Logic.{inl, inr, ⊎_elim}
 use native.Mathlib.Omega.{arith}
-use borrow.Author.Tests.{eqb-true, eqb-false}
 use lib.ListN.{length}
 use Rattle.row.proofs.RowLaws.{formed_start, formed_last}
 use Rattle.whole_run.proofs.WordsAhead.{ahead}

@@ -1,5 +1,4 @@
 -- `numbered_qmode` is `qmode_numbered`, number by number; a number that is none of 0, 1 and 2 is 3 or more.
-use Rattle.camac.proofs.Laws.{three_or_more}
 use Rattle.camac.proofs.words.numbered_qmode.Goals as goal
 
 pub returns-in-0 : goal.returns-in-0

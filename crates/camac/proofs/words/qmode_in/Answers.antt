@@ -1,9 +1,5 @@
 -- `qmode_in` is `qmode_in`: numbers 0, 1 and 2 are no list sequencer's, and 3 is one by the transfer mode.
-use mathlib.Core.Path.{◌≡◌}
-use mathlib.Core.Bool.{and-true, and-false}
-use native.Mathlib.Omega.{arith}
-use Rattle.camac.specs.Words.{qmode_bits}
-use Rattle.camac.proofs.Laws.{three}
+use mathlib.Core.Bool.{and-false}
 use Rattle.camac.proofs.words.qmode_in.Goals as goal
 
 pub returns-in-0 : goal.returns-in-0

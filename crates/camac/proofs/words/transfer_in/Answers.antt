@@ -1,7 +1,6 @@
 -- `transfer_in` is `transfer_in`, mode by mode; a mode that is none of 0, 1 and 2 is 3 or more.
 use borrow.Author.Rules.{rules}
 use Rattle.camac.specs.Words.{transfer_in}
-use Rattle.camac.proofs.Laws.{three_or_more}
 use Rattle.camac.proofs.words.transfer_in.Goals as goal
 
 pub returns-in-0 : goal.returns-in-0

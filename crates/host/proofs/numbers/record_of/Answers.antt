@@ -1,7 +1,6 @@
 -- `record_of` is `record_or`: part by part the record of numbers that are narrow, else the one that fits no list.
 use mathlib.Core.Path.{sym, ◌∙◌}
 use native.Mathlib.Omega.{arith}
-use borrow.Author.Tests.{not-true, not-false}
 use Rattle.host.proofs.TooWide.{narrow}
 use Rattle.host.proofs.numbers.record_of.Goals as goal
 

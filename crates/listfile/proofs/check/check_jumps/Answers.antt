@@ -1,5 +1,4 @@
 -- The loop's invariant: the first bad jump of all fields is the first of those from k on. The measure is the fields left.
-use Prim.Native.Nat.{◌-◌}
 use mathlib.Core.Path.{refl, sym, ◌∙◌}
 use native.Mathlib.Omega.{arith}
 use Rattle.listfile.proofs.PassLaws.{jumps_bad, jumps_more, jumps_right}

@@ -1,6 +1,5 @@
 -- The loop's invariant: all fields are those passed, in front of those from here on; the place is the next instruction's, at most eleven
 -- bytes on by instruction; the table is right so far, and no jump leads to `furthest` or past it. The measure is what is left of the list.
-use Prim.Native.Nat.{◌-◌}
 use mathlib.Core.Path.{refl, sym, ◌∙◌}
 use native.Mathlib.Omega.{arith}
 use lib.ListN.{length-set}

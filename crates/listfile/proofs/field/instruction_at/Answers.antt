@@ -4,7 +4,6 @@ use mathlib.Core.Path.{sym, ap, ◌∙◌}
 use Rattle.listfile.specs.Fields.{first_at, second_at}
 use Rattle.listfile.specs.model.Table.{instruction_by, instruction_at}
 use Rattle.listfile.specs.declared.field.Instruction.TheVariants.{Camac}
-use Rattle.listfile.proofs.field.instruction_at.Reads as reads
 use Rattle.listfile.proofs.field.instruction_at.Goals as goal
 
 pub single_in-requires : goal.single_in-requires

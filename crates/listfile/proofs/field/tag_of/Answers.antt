@@ -1,5 +1,4 @@
 -- `tag_of` is `tag_of`, arm by arm.
-use borrow.Author.Tests.{ne_eqb}
 use Rattle.listfile.proofs.field.tag_of.Goals as goal
 
 pub returns-in-16 : goal.returns-in-16

@@ -1,12 +1,10 @@
 -- `words_at` is `words_of` the field's instruction: a block has a second longword, which lies in the list; any other wants one word.
-use Prim.Native.Nat.{ℕ, ◌+◌, ◌≤◌}
-use mathlib.Core.Path.{◌≡◌, sym, ap, ◌∙◌}
+use Prim.Native.Nat.{ℕ}
+use mathlib.Core.Path.{sym, ap, ◌∙◌}
 use native.Mathlib.Omega.{arith}
-use mathlib.Core.Bool.{true}
-use lib.ListN.{length}
 use Rattle.camac.specs.Words.{is_block_in, command_in, words_of}
 use Rattle.camac.proofs.BitLaws.{command_words}
-use Rattle.listfile.specs.Fields.{first_at, second_at}
+use Rattle.listfile.specs.Fields.{second_at}
 use Rattle.listfile.proofs.PartLaws.{block_inside, block_second}
 use Rattle.listfile.proofs.parts.words_at.Goals as goal
 

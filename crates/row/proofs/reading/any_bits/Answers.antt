@@ -1,6 +1,6 @@
 -- `any_bits` has each bit that one of the replies has. The loop's invariant: bits that it lacks, each reply passed lacks, for a bit of an OR is a bit of
 -- one of its parts.
-use Prim.Native.Nat.{ℕ, ◌-◌, ◌*◌, ◌≤◌}
+use Prim.Native.Nat.{ℕ, ◌*◌, ◌≤◌}
 use mathlib.Core.Path.{◌≡◌, sym, ap, ◌∙◌}
 use native.Mathlib.Omega.{arith}
 use borrow.Author.Count.{below_more}

@@ -1,5 +1,5 @@
 -- `any_raised` has in its second byte the flags of the replies, Q and X negated. The loop's invariant: it has those of the replies passed.
-use Prim.Native.Nat.{ℕ, ◌-◌, ◌/◌, ◌%◌}
+use Prim.Native.Nat.{ℕ, ◌/◌, ◌%◌}
 use mathlib.Core.Path.{◌≡◌, ap, ◌∙◌}
 use native.Mathlib.Omega.{arith}
 use lib.Bits.{bit_or, bit_xor}

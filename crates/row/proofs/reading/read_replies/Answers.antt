@@ -1,10 +1,9 @@
 -- `read_replies` reads replies one by one. The loop's invariant: those passed are formed, and of them those before `first` are answers.
-use Prim.Native.Nat.{ℕ, ◌-◌, ◌*◌, ◌<◌, ◌≤◌}
+use Prim.Native.Nat.{ℕ, ◌*◌, ◌<◌, ◌≤◌}
 use mathlib.Core.Path.{◌≡◌, sym, ◌∙◌}
 use mathlib.Core.Bool.{true}
 use native.Mathlib.Omega.{arith}
 use borrow.Author.Count.{below_more}
-use borrow.Author.Tests.{not-true, not-false}
 use lib.ListN.{get_or, take, drop}
 use Rattle.reply.specs.Replies.{is_formed}
 use Rattle.row.proofs.ReadLaws.{one_unformed}

@@ -1,6 +1,6 @@
 -- `read_row` reads a row stretch by stretch. The loop's invariant: the replies passed are formed, and of them those before `answers` are answers. A row
 -- that is no multiple of 8 bytes is not formed.
-use Prim.Native.Nat.{◌-◌, ◌/◌}
+use Prim.Native.Nat.{◌/◌}
 use mathlib.Core.Path.{subst}
 use native.Mathlib.Omega.{arith}
 use lib.ListN.{length}

@@ -1,9 +1,7 @@
 -- `pass_words` counts words. The loop's invariant: the first k answers are words. Where it stops early, the next is none, so that a first word is
 -- counted.
-use Prim.Native.Nat.{◌-◌}
 use mathlib.Core.Path.{sym, ◌∙◌}
 use native.Mathlib.Omega.{arith}
-use borrow.Author.Tests.{not-true, not-false}
 use Rattle.row.proofs.WordLaws.{words_none, words_more, first_passed}
 use Rattle.row.proofs.words.pass_words.Goals as goal
 

@@ -1,9 +1,7 @@
 -- `read_narrow` counts words and stores them. The loop's invariant: the first k answers are words, and they lie in the buffer.
-use Prim.Native.Nat.{◌-◌}
 use mathlib.Core.Path.{refl, sym, ◌∙◌}
 use mathlib.Core.Bool.{false}
 use native.Mathlib.Omega.{arith}
-use borrow.Author.Tests.{not-true, not-false}
 use Rattle.row.proofs.WordLaws.{words_none, words_more, first_passed, stored_none, narrow_more}
 use Rattle.row.proofs.words.read_narrow.Goals as goal
 

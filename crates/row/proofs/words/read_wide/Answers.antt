@@ -1,11 +1,8 @@
 -- `read_wide` counts words and stores them, two by two, then the last of an odd number. The loop's invariant: the first k answers are words, and they
 -- lie in the buffer; no word has a pad, since the first has none.
-use Prim.Native.Nat.{ℕ, ◌+◌, ◌-◌}
-use mathlib.Core.Path.{◌≡◌, refl, sym, ◌∙◌, subst}
-use mathlib.Core.Bool.{true}
-use mathlib.Core.List.{List}
+use Prim.Native.Nat.{ℕ}
+use mathlib.Core.Path.{refl, sym, ◌∙◌, subst}
 use native.Mathlib.Omega.{arith}
-use borrow.Author.Tests.{not-true, not-false}
 use Rattle.row.proofs.WordLaws.{first_passed, WideRead, wide_none, wide_taken, wide_left}
 use Rattle.row.proofs.words.read_wide.Goals as goal
 

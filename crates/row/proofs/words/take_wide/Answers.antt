@@ -1,6 +1,5 @@
 -- `take_wide` stores the longword of an answer that is a word, and nothing of another.
 use mathlib.Core.Path.{refl, sym, ◌∙◌}
-use borrow.Author.Tests.{not-true, not-false}
 use Rattle.row.proofs.words.take_wide.Goals as goal
 
 pub returns-then-not-is_word_at : goal.returns-then-not-is_word_at

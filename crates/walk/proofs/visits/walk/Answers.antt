@@ -1,6 +1,5 @@
 -- The loop's invariant: the walk from its start comes to what the walk from here with the sums so far comes to, and each visit added at most
 -- 2^48 to each sum. The measure is the visits left.
-use Prim.Native.Nat.{◌-◌}
 use mathlib.Core.Path.{refl, sym, ◌∙◌, subst}
 use native.Mathlib.Omega.{arith}
 use Rattle.listfile.specs.model.Table.{FieldPassed}

@@ -1,7 +1,7 @@
 -- `steps_planned` is `steps_prepared`: each return is one case of 24, 23, 22 and the row's replies taken.
 use mathlib.Core.Path.{◌≡◌, ap, subst}
 use mathlib.Core.Logic.{inr}
-use mathlib.Core.Bool.{true, false}
+use mathlib.Core.Bool.{true}
 use borrow.Author.Rules.{rules}
 use Rattle.base.specs.Refusals.{not_refused}
 use Rattle.walk.specs.model.Sums.{plan_by}
