@@ -1,5 +1,4 @@
 -- The place of the instruction visited is that of a field that passed, and the sums stay small.
-use Prim.Native.Nat.{◌-◌}
 use mathlib.Core.Path.{refl, sym, ◌∙◌, subst}
 use native.Mathlib.Omega.{arith}
 use Rattle.listfile.specs.model.Table.{FieldPassed}
