@@ -2,7 +2,7 @@
 // read up to 65,536 bytes; a missing one is empty. The incoming buffer is 65,536 zero bytes.
 #![tactic(auto)]
 
-ghost use Rattle.io.specs.Counts.{IsPrefixLen as CountsBytes};
+ghost use Rattle.std.specs.Counts.{IsPrefixLen as CountsBytes};
 ghost use Rattle.calls.specs.Calls.{step_of, Yields};
 ghost use Rattle.reply.specs.Effect.{state_of};
 
@@ -10,62 +10,97 @@ use base::Refusal;
 use calls::{NOT_FORMED, Operation, Yield};
 use reply::Record;
 use row::RowRead;
+use std::fs::File;
+use std::io;
+use std::io::{BufWriter, Printer, Read, Write};
+use std::rt::Files;
 use walk::{Admission, Counts};
+
+// The most bytes that are read of a file.
+const MOST_BYTES: usize = 65536;
 
 // The bytes of the incoming buffer.
 const INCOMING: usize = 65536;
 
-fn main() {
-    let mut list = io::large_buffer();
-    let list_size = read_file(b"run.lst", &mut list);
-    let mut replies = io::large_buffer();
-    let replies_size = read_file(b"run.rep", &mut replies);
-    let mut outgoing = io::large_buffer();
-    let outgoing_size = read_file(b"run.out", &mut outgoing);
+fn main(rt: HostRuntime) -> io::Result<()> {
+    let mut list = [0; MOST_BYTES];
+    let list_size = read_file(&rt, "run.lst", &mut list);
+    let mut replies = [0; MOST_BYTES];
+    let replies_size = read_file(&rt, "run.rep", &mut replies);
+    let mut outgoing = [0; MOST_BYTES];
+    let outgoing_size = read_file(&rt, "run.out", &mut outgoing);
+    let mut out = output(&rt);
     run_list(
+        &mut out,
         &list[..list_size],
         &replies[..replies_size],
         &outgoing[..outgoing_size],
-    );
+    )?;
+    out.flush()
 }
 
 // The bytes of a file at the start of a buffer: how many there are.
-fn read_file(name: &[u8], bytes: &mut [u8]) -> usize
+fn read_file(rt: &impl Files, name: &str, bytes: &mut [u8]) -> usize
     ensures { CountsBytes result bytes.new }
 {
-    let file = os::open_read(name);
-    if file < 0 {
-        return 0;
+    match File::open(rt, name) {
+        Ok(mut file) => read_full(&mut file, bytes),
+        Err(_) => 0,
     }
-    let size = io::read_full(file, bytes);
-    libc::close(file);
-    size
 }
 
-fn run_list(list: &[u8], replies: &[u8], outgoing: &[u8]) {
+// The bytes up to the buffer's end, the file's, or a read that fails.
+fn read_full(file: &mut impl Read, bytes: &mut [u8]) -> usize
+    ensures { CountsBytes result bytes.new }
+{
+    let mut done = 0;
+    while done < bytes.len() {
+        let Ok(size) = file.read(&mut bytes[done..]) else {
+            break;
+        };
+        if size == 0 {
+            break;
+        }
+        done += size;
+    }
+    done
+}
+
+// The standard output behind a buffer, or behind none where there is no memory for one.
+fn output(rt: &HostRuntime) -> BufWriter<Printer<'_, HostRuntime>> {
+    match BufWriter::new(rt.alloc(), io::writer(rt)) {
+        Ok(out) => out,
+        Err(_) => BufWriter::with_capacity(rt.alloc(), 0, io::writer(rt)).unwrap(),
+    }
+}
+
+fn run_list(out: &mut impl Write, list: &[u8], replies: &[u8], outgoing: &[u8]) -> io::Result<()> {
     let admission = walk::admit(list, INCOMING, outgoing.len());
     match admission {
-        Admission::Refused(r) => {
-            print_refused(r);
-        }
+        Admission::Refused(r) => print_refused(out, r),
         Admission::Admitted(counts) => {
-            print_admitted(counts);
+            print_admitted(out, counts)?;
             let read = row::read_row(replies);
             let RowRead::Answers(_) = read else {
-                print_refused(Refusal {
+                let refusal = Refusal {
                     number: NOT_FORMED,
                     place: 0,
-                });
-                return;
+                };
+                return print_refused(out, refusal);
             };
-            run_replies(list, replies, outgoing);
+            run_replies(out, list, replies, outgoing)
         }
     }
 }
 
 // Start, then a step for each reply until the run has ended or the replies run out.
-fn run_replies(list: &[u8], replies: &[u8], outgoing: &[u8]) {
-    let mut space = io::large_buffer();
+fn run_replies(
+    out: &mut impl Write,
+    list: &[u8],
+    replies: &[u8],
+    outgoing: &[u8],
+) -> io::Result<()> {
+    let mut space = [0; INCOMING];
     let incoming: &mut [u8] = &mut space;
     let first = step::start(list, incoming, outgoing);
     let mut here = first.run;
@@ -76,7 +111,7 @@ fn run_replies(list: &[u8], replies: &[u8], outgoing: &[u8]) {
         if here.ended {
             break;
         }
-        print_operation(here.operations, wanted);
+        print_operation(out, here.operations, wanted)?;
         let end = at + 8;
         let next = take_reply(list, here, incoming, outgoing, &replies[at..end]);
         here = next.run;
@@ -84,7 +119,7 @@ fn run_replies(list: &[u8], replies: &[u8], outgoing: &[u8]) {
         at = end;
         left -= 1;
     }
-    print_end(here);
+    print_end(out, here)
 }
 
 // One reply, taken by a step whose record is lent.
@@ -101,59 +136,58 @@ fn take_reply(list: &[u8], r: Record, incoming: &mut [u8], outgoing: &[u8], repl
     }
 }
 
-fn print(text: &[u8]) {
-    io::write_all(1, text);
+fn print(out: &mut impl Write, text: &[u8]) -> io::Result<()> {
+    out.write_all(text)
 }
 
-fn print_number(n: u64) {
-    print(b" ");
-    io::print_decimal(1, n);
+fn print_number(out: &mut impl Write, n: u64) -> io::Result<()> {
+    write!(out, " {n}")
 }
 
-fn print_refused(r: Refusal) {
-    print(b"refused");
-    print_number(r.number as u64);
-    print_number(r.place as u64);
-    print(b"\n");
+fn print_refused(out: &mut impl Write, r: Refusal) -> io::Result<()> {
+    print(out, b"refused")?;
+    print_number(out, r.number as u64)?;
+    print_number(out, r.place as u64)?;
+    print(out, b"\n")
 }
 
-fn print_admitted(c: Counts) {
-    print(b"admitted");
-    print_number(c.worst);
-    print_number(c.incoming);
-    print_number(c.outgoing);
-    print(b"\n");
+fn print_admitted(out: &mut impl Write, c: Counts) -> io::Result<()> {
+    print(out, b"admitted")?;
+    print_number(out, c.worst)?;
+    print_number(out, c.incoming)?;
+    print_number(out, c.outgoing)?;
+    print(out, b"\n")
 }
 
 // The operation whose reply is taken next; `made` operations were made before it.
-fn print_operation(made: u64, o: Operation) {
-    print(b"op");
-    print_number(next_number(made));
-    print_number(o.crate_number as u64);
-    print_number(o.station as u64);
-    print_number(o.subaddress as u64);
-    print_number(o.function as u64);
-    print(b"\n");
+fn print_operation(out: &mut impl Write, made: u64, o: Operation) -> io::Result<()> {
+    print(out, b"op")?;
+    print_number(out, next_number(made))?;
+    print_number(out, o.crate_number as u64)?;
+    print_number(out, o.station as u64)?;
+    print_number(out, o.subaddress as u64)?;
+    print_number(out, o.function as u64)?;
+    print(out, b"\n")
 }
 
 fn next_number(n: u64) -> u64 {
     if n < 0xFFFFFFFFFFFFFFFF { n + 1 } else { n }
 }
 
-fn print_end(r: Record) {
+fn print_end(out: &mut impl Write, r: Record) -> io::Result<()> {
     let marks = r.marks;
     let status = r.status;
     if r.ended {
-        print(b"end ");
-        print(&[digit(status >> 28)]);
-        print(b" ");
-        print(&status_digits(status));
+        print(out, b"end ")?;
+        print(out, &[digit(status >> 28)])?;
+        print(out, b" ")?;
+        print(out, &status_digits(status))?;
     } else {
-        print(b"waiting");
+        print(out, b"waiting")?;
     }
-    print_number(r.operations);
-    print_number(marks.incoming as u64);
-    print(b"\n");
+    print_number(out, r.operations)?;
+    print_number(out, marks.incoming as u64)?;
+    print(out, b"\n")
 }
 
 // The lowest hexadecimal digit of a number, in upper case.

@@ -3,195 +3,220 @@ use crate::text::{print, print_column, print_hex, print_number, print_plural, pr
 use camac::{Address, Command, Direction, Transfer};
 use listfile::Instruction;
 use qmodes::QMode;
+use std::io;
+use std::io::Write;
 
 // The first field, below the names of the columns.
-pub(crate) fn print_head(limit: u64) {
-    print(b"  place  number  what it does\n      0    head  format 1, try limit R = ");
-    print_number(limit);
-    print(b"\n");
+pub(crate) fn print_head(out: &mut impl Write, limit: u64) -> io::Result<()> {
+    print(
+        out,
+        b"  place  number  what it does\n      0    head  format 1, try limit R = ",
+    )?;
+    print_number(out, limit)?;
+    print(out, b"\n")
 }
 
 // An instruction, with its place and its number.
-pub(crate) fn print_field(place: usize, number: usize, limit: u64, i: Instruction) {
-    print_column(place as u64, 7);
-    print_column(number as u64, 8);
-    print(b"  ");
+pub(crate) fn print_field(
+    out: &mut impl Write,
+    place: usize,
+    number: usize,
+    limit: u64,
+    i: Instruction,
+) -> io::Result<()> {
+    print_column(out, place as u64, 7)?;
+    print_column(out, number as u64, 8)?;
+    print(out, b"  ")?;
     match i {
-        Instruction::Camac(c) => print_command(limit, c),
+        Instruction::Camac(c) => print_command(out, limit, c),
         Instruction::Jump(target) => {
-            print(b"jump to instruction ");
-            print_number(target as u64);
-            print(b"\n");
+            print(out, b"jump to instruction ")?;
+            print_number(out, target as u64)?;
+            print(out, b"\n")
         }
         Instruction::Literal(v) => {
-            print(b"store the literal longword ");
-            print_hex(v, 8);
-            print(b"h\n");
+            print(out, b"store the literal longword ")?;
+            print_hex(out, v, 8)?;
+            print(out, b"h\n")
         }
-        Instruction::Halt => print(b"halt: end the run with code 0\n"),
+        Instruction::Halt => print(out, b"halt: end the run with code 0\n"),
     }
 }
 
 // A CAMAC instruction: what it moves and where; in a second line its Q-mode and AD.
-pub(crate) fn print_command(limit: u64, c: Command) {
+pub(crate) fn print_command(out: &mut impl Write, limit: u64, c: Command) -> io::Result<()> {
     let t = c.transfer;
-    print_transfer(t, c.wide);
-    print_address(camac::address_of(t));
-    print_function(t);
-    print(b"\n                 ");
-    print_rule(limit, t);
-    print_ad(camac::qmode_of(t), c.ad);
+    print_transfer(out, t, c.wide)?;
+    print_address(out, camac::address_of(t))?;
+    print_function(out, t)?;
+    print(out, b"\n                 ")?;
+    print_rule(out, limit, t)?;
+    print_ad(out, camac::qmode_of(t), c.ad)
 }
 
-fn print_transfer(t: Transfer, wide: bool) {
-    print_direction(t);
+fn print_transfer(out: &mut impl Write, t: Transfer, wide: bool) -> io::Result<()> {
+    print_direction(out, t)?;
     match t {
-        Transfer::Single(_, _) => print_single(t, wide),
+        Transfer::Single(_, _) => print_single(out, t, wide),
         Transfer::Block(_, _, n) => {
-            print(b"a block of ");
-            print_words(wide, n);
+            print(out, b"a block of ")?;
+            print_words(out, wide, n)
         }
         Transfer::Enhanced(_, _, n) => {
-            print(b"an enhanced block of ");
-            print_words(wide, n);
+            print(out, b"an enhanced block of ")?;
+            print_words(out, wide, n)
         }
         Transfer::Inline(_, _, v) => {
-            print(b"write the list's own word ");
-            print_word(wide, v);
+            print(out, b"write the list's own word ")?;
+            print_word(out, wide, v)
         }
     }
 }
 
 // An inline write moves no word of a buffer, nor does control.
-fn print_direction(t: Transfer) {
+fn print_direction(out: &mut impl Write, t: Transfer) -> io::Result<()> {
     let d = camac::direction_of(t);
     match d {
-        Direction::Incoming => print(b"read "),
-        Direction::Outgoing => print(b"write "),
-        Direction::Neither => {}
+        Direction::Incoming => print(out, b"read "),
+        Direction::Outgoing => print(out, b"write "),
+        Direction::Neither => Ok(()),
     }
 }
 
 // A single of a control function has no data.
-fn print_single(t: Transfer, wide: bool) {
+fn print_single(out: &mut impl Write, t: Transfer, wide: bool) -> io::Result<()> {
     let d = camac::direction_of(t);
     match d {
-        Direction::Incoming => print_words(wide, 1),
-        Direction::Outgoing => print_words(wide, 1),
-        Direction::Neither => print(b"command without data"),
+        Direction::Incoming => print_words(out, wide, 1),
+        Direction::Outgoing => print_words(out, wide, 1),
+        Direction::Neither => print(out, b"command without data"),
     }
 }
 
 // Some words and their size.
-fn print_words(wide: bool, n: u64) {
-    print_plural(n, b" word of ", b" words of ");
+fn print_words(out: &mut impl Write, wide: bool, n: u64) -> io::Result<()> {
+    print_plural(out, n, b" word of ", b" words of ")?;
     if wide {
-        print(b"24 bits");
+        print(out, b"24 bits")
     } else {
-        print(b"16 bits");
+        print(out, b"16 bits")
     }
 }
 
-pub(crate) fn print_address(a: Address) {
-    print(b", crate ");
-    print_number(a.crate_number as u64);
-    print(b", N ");
-    print_number(a.station as u64);
-    print(b", A ");
-    print_number(a.subaddress as u64);
-    print(b", F ");
-    print_number(a.function as u64);
+pub(crate) fn print_address(out: &mut impl Write, a: Address) -> io::Result<()> {
+    print(out, b", crate ")?;
+    print_number(out, a.crate_number as u64)?;
+    print(out, b", N ")?;
+    print_number(out, a.station as u64)?;
+    print(out, b", A ")?;
+    print_number(out, a.subaddress as u64)?;
+    print(out, b", F ")?;
+    print_number(out, a.function as u64)
 }
 
 // What the function is: control where its 8-bit is set, else a write where its 16-bit is. A list sequencer's A says the direction.
-fn print_function(t: Transfer) {
+fn print_function(out: &mut impl Write, t: Transfer) -> io::Result<()> {
     let a = camac::address_of(t);
     let f = a.function;
     if f / 8 % 2 == 1 {
         if camac::is_enhanced(t) {
-            print(b" (list sequencer, A says the direction)");
+            print(out, b" (list sequencer, A says the direction)")
         } else {
-            print(b" (control)");
+            print(out, b" (control)")
         }
     } else if f / 16 % 2 == 1 {
-        print(b" (write)");
+        print(out, b" (write)")
     } else {
-        print(b" (read)");
+        print(out, b" (read)")
     }
 }
 
 // The Q-mode, and what Q does.
-fn print_rule(limit: u64, t: Transfer) {
+fn print_rule(out: &mut impl Write, limit: u64, t: Transfer) -> io::Result<()> {
     let q = camac::qmode_of(t);
     match q {
         QMode::Stop => {
             if camac::is_block_of(t) {
-                print(b"stop (Q = 0 closes the block, the list goes on)");
+                print(out, b"stop (Q = 0 closes the block, the list goes on)")
             } else {
-                print(b"stop (Q = 0 ends the run)");
+                print(out, b"stop (Q = 0 ends the run)")
             }
         }
-        QMode::Ignore => print(b"ignore (a word is done whatever Q is)"),
+        QMode::Ignore => print(out, b"ignore (a word is done whatever Q is)"),
         QMode::Repeat => {
-            print(b"repeat (a word is tried until Q = 1; Q = 0 on try ");
-            print_number(limit);
-            print(b" ends the run)");
+            print(out, b"repeat (a word is tried until Q = 1; Q = 0 on try ")?;
+            print_number(out, limit)?;
+            print(out, b" ends the run)")
         }
         QMode::Scan => {
             print(
+                out,
                 b"scan (Q = X = 1: next subaddress, else next station; past station 23 the run ends)",
-            );
+            )
         }
     }
 }
 
 // AD, and what it says of other errors. A scan asks for no X.
-fn print_ad(q: QMode, ad: bool) {
+fn print_ad(out: &mut impl Write, q: QMode, ad: bool) -> io::Result<()> {
     if ad {
-        print(b"; AD = 1 (not ended by ");
+        print(out, b"; AD = 1 (not ended by ")?;
     } else {
-        print(b"; AD = 0 (ended by ");
+        print(out, b"; AD = 0 (ended by ")?;
     }
     if !qmodes::is_scan(q) {
-        print(b"X = 0, ");
+        print(out, b"X = 0, ")?;
     }
-    print(b"a parity error, or a damaged command: ERR while X = 1)\n");
+    print(
+        out,
+        b"a parity error, or a damaged command: ERR while X = 1)\n",
+    )
 }
 
 // The parts of a CAMAC field that is refused: no words are made of them, since they may not go together.
-pub(crate) fn print_parts(place: usize, number: usize, first: u32) {
+pub(crate) fn print_parts(
+    out: &mut impl Write,
+    place: usize,
+    number: usize,
+    first: u32,
+) -> io::Result<()> {
     let c = camac::command_in(first, 0);
     let t = c.transfer;
-    print_column(place as u64, 7);
-    print_column(number as u64, 8);
-    print(b"  refused: transfer mode ");
-    print_number(camac::mode_in(first) as u64);
-    print(b", Q-mode ");
-    print_number(((first >> 3) % 4) as u64);
-    print_address(camac::address_of(t));
+    print_column(out, place as u64, 7)?;
+    print_column(out, number as u64, 8)?;
+    print(out, b"  refused: transfer mode ")?;
+    print_number(out, camac::mode_in(first) as u64)?;
+    print(out, b", Q-mode ")?;
+    print_number(out, ((first >> 3) % 4) as u64)?;
+    print_address(out, camac::address_of(t))?;
     if c.wide {
-        print(b", 24 bits");
+        print(out, b", 24 bits")
     } else {
-        print(b", 16 bits");
+        print(out, b", 16 bits")
     }
 }
 
 // The second longword: none of a single's, the data of an inline write, or the count of a block.
-pub(crate) fn print_second(mode: u32, second: u32) {
+pub(crate) fn print_second(out: &mut impl Write, mode: u32, second: u32) -> io::Result<()> {
     match mode {
         0 => {
-            print(b", second longword ");
-            print_hex(second, 8);
-            print(b"h");
+            print(out, b", second longword ")?;
+            print_hex(out, second, 8)?;
+            print(out, b"h")
         }
         3 => {
-            print(b", data ");
-            print_hex(second, 8);
-            print(b"h");
+            print(out, b", data ")?;
+            print_hex(out, second, 8)?;
+            print(out, b"h")
         }
         _ => {
-            print(b", count ");
-            print_plural((1 << 32) - (second as u64), b" halfword", b" halfwords");
+            print(out, b", count ")?;
+            print_plural(
+                out,
+                (1 << 32) - (second as u64),
+                b" halfword",
+                b" halfwords",
+            )
         }
     }
 }

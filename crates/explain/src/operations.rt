@@ -6,6 +6,8 @@ use listfile::Instruction;
 use packing::Marks;
 use qmodes::{Answer, QMode};
 use reply::{Note, Record};
+use std::io;
+use std::io::Write;
 
 // Above the offset of every byte of a buffer.
 const MOST: u64 = 65536;
@@ -92,93 +94,105 @@ fn is_like(s: Stretch, e: Event) -> bool {
 }
 
 // A stretch with one event more. Where that is of another kind the stretch is printed, and one begins.
-pub(crate) fn gathered(list: &[u8], table: &[u16], s: Stretch, e: Event) -> Stretch {
+pub(crate) fn gathered(
+    out: &mut impl Write,
+    list: &[u8],
+    table: &[u16],
+    s: Stretch,
+    e: Event,
+) -> io::Result<Stretch> {
     if is_like(s, e) {
         let first = s.first;
-        return Stretch {
+        return Ok(Stretch {
             count: 2,
             first: first,
             last: e,
-        };
+        });
     }
-    print_stretch(list, table, s);
-    Stretch {
+    print_stretch(out, list, table, s)?;
+    Ok(Stretch {
         count: 1,
         first: e,
         last: e,
-    }
+    })
 }
 
 // A stretch in words: its operations, what was answered, what came of it.
-pub(crate) fn print_stretch(list: &[u8], table: &[u16], s: Stretch) {
+pub(crate) fn print_stretch(
+    out: &mut impl Write,
+    list: &[u8],
+    table: &[u16],
+    s: Stretch,
+) -> io::Result<()> {
     let first = s.first;
     let k = first.instruction;
     if s.count == 0 {
-        return;
+        return Ok(());
     }
     if table.len() <= k {
-        return;
+        return Ok(());
     }
     let i = listfile::instruction_at(list, table[k]);
     let Instruction::Camac(c) = i else {
-        return;
+        return Ok(());
     };
-    print_operations(s);
-    print_written(c, s);
-    print(b": ");
-    print_reply(first.kind, first.flags);
-    print_read(c, s);
-    print(b": ");
-    print_effect(c, s);
-    print(b"\n");
+    print_operations(out, s)?;
+    print_written(out, c, s)?;
+    print(out, b": ")?;
+    print_reply(out, first.kind, first.flags)?;
+    print_read(out, c, s)?;
+    print(out, b": ")?;
+    print_effect(out, c, s)?;
+    print(out, b"\n")
 }
 
 // The numbers of the operations, their instruction, N, A and F. In a scan the position moves.
-fn print_operations(s: Stretch) {
+fn print_operations(out: &mut impl Write, s: Stretch) -> io::Result<()> {
     let first = s.first;
     let last = s.last;
     let from = first.made;
     let to = last.made;
     if first.number == last.number {
-        print(b"  operation ");
+        print(out, b"  operation ")?;
     } else {
-        print(b"  operations ");
-        print_number(first.number);
-        print(b" to ");
+        print(out, b"  operations ")?;
+        print_number(out, first.number)?;
+        print(out, b" to ")?;
     }
-    print_number(last.number);
-    print(b", instruction ");
-    print_number(first.instruction as u64);
-    print(b", crate ");
-    print_number(from.crate_number as u64);
-    print(b", ");
-    print_position(from);
+    print_number(out, last.number)?;
+    print(out, b", instruction ")?;
+    print_number(out, first.instruction as u64)?;
+    print(out, b", crate ")?;
+    print_number(out, from.crate_number as u64)?;
+    print(out, b", ")?;
+    print_position(out, from)?;
     if (from.station != to.station) | (from.subaddress != to.subaddress) {
-        print(b" to ");
-        print_position(to);
+        print(out, b" to ")?;
+        print_position(out, to)?;
     }
-    print(b", F ");
-    print_number(from.function as u64);
+    print(out, b", F ")?;
+    print_number(out, from.function as u64)
 }
 
-fn print_position(o: Operation) {
-    print(b"N ");
-    print_number(o.station as u64);
-    print(b", A ");
-    print_number(o.subaddress as u64);
+fn print_position(out: &mut impl Write, o: Operation) -> io::Result<()> {
+    print(out, b"N ")?;
+    print_number(out, o.station as u64)?;
+    print(out, b", A ")?;
+    print_number(out, o.subaddress as u64)
 }
 
 // The data of a write.
-fn print_written(c: Command, s: Stretch) {
+fn print_written(out: &mut impl Write, c: Command, s: Stretch) -> io::Result<()> {
     let t = c.transfer;
     let first = s.first;
     let last = s.last;
     let from = first.made;
     let to = last.made;
     if is_writing(t) {
-        print(b", data ");
-        print_ends(c.wide, from.word, to.word, s.count);
+        print(out, b", data ")?;
+        print_ends(out, c.wide, from.word, to.word, s.count)?;
     }
+    Ok(())
 }
 
 fn is_writing(t: Transfer) -> bool {
@@ -206,110 +220,119 @@ fn is_taking(d: Direction) -> bool {
 }
 
 // The first word of some, and the last.
-fn print_ends(wide: bool, first: u32, last: u32, count: u8) {
-    print_word(wide, first);
+fn print_ends(
+    out: &mut impl Write,
+    wide: bool,
+    first: u32,
+    last: u32,
+    count: u8,
+) -> io::Result<()> {
+    print_word(out, wide, first)?;
     if 1 < count {
-        print(b" first, ");
-        print_word(wide, last);
-        print(b" last");
+        print(out, b" first, ")?;
+        print_word(out, wide, last)?;
+        print(out, b" last")?;
     }
+    Ok(())
 }
 
-fn print_reply(kind: u8, flags: u8) {
+fn print_reply(out: &mut impl Write, kind: u8, flags: u8) -> io::Result<()> {
     match kind {
-        0 => print_flags(flags),
-        1 => print(b"timeout"),
-        2 => print(b"address not recognised"),
-        _ => print(b"no sync"),
+        0 => print_flags(out, flags),
+        1 => print(out, b"timeout"),
+        2 => print(out, b"address not recognised"),
+        _ => print(out, b"no sync"),
     }
 }
 
 // Q and X, and the other flags that are set.
-fn print_flags(flags: u8) {
-    print(b"Q = ");
-    print_number((flags % 2) as u64);
-    print(b", X = ");
-    print_number((flags / 2 % 2) as u64);
+fn print_flags(out: &mut impl Write, flags: u8) -> io::Result<()> {
+    print(out, b"Q = ")?;
+    print_number(out, (flags % 2) as u64)?;
+    print(out, b", X = ")?;
+    print_number(out, (flags / 2 % 2) as u64)?;
     if flags / 4 % 2 == 1 {
-        print(b", ERR");
+        print(out, b", ERR")?;
     }
     if flags / 8 % 2 == 1 {
-        print(b", DERR");
+        print(out, b", DERR")?;
     }
     if flags / 16 % 2 == 1 {
-        print(b", TPE");
+        print(out, b", TPE")?;
     }
     if flags / 32 % 2 == 1 {
-        print(b", LPE");
+        print(out, b", LPE")?;
     }
+    Ok(())
 }
 
 // The words that were read and moved.
-fn print_read(c: Command, s: Stretch) {
+fn print_read(out: &mut impl Write, c: Command, s: Stretch) -> io::Result<()> {
     let t = c.transfer;
     let first = s.first;
     let last = s.last;
     if last.moved & !is_writing(t) {
-        print(b", data ");
-        print_ends(c.wide, first.word, last.word, s.count);
+        print(out, b", data ")?;
+        print_ends(out, c.wide, first.word, last.word, s.count)?;
     }
+    Ok(())
 }
 
 // What came of a reply.
-fn print_effect(c: Command, s: Stretch) {
+fn print_effect(out: &mut impl Write, c: Command, s: Stretch) -> io::Result<()> {
     let t = c.transfer;
     let q = camac::qmode_of(t);
     let e = s.last;
     if e.code != 0 {
         if e.moved {
-            print_done(c, s);
-            print(b"; then ");
+            print_done(out, c, s)?;
+            print(out, b"; then ")?;
         }
-        print(b"the run ends");
-        return;
+        return print(out, b"the run ends");
     }
     if qmodes::is_done(q, answer_of(e)) {
-        print_done(c, s);
-        return;
+        return print_done(out, c, s);
     }
     match q {
-        QMode::Stop => print(b"not moved, the block is closed"),
-        QMode::Ignore => {}
-        QMode::Repeat => print(b"not ready, tried again"),
-        QMode::Scan => print(b"no word here, on to the next station"),
+        QMode::Stop => print(out, b"not moved, the block is closed"),
+        QMode::Ignore => Ok(()),
+        QMode::Repeat => print(out, b"not ready, tried again"),
+        QMode::Scan => print(out, b"no word here, on to the next station"),
     }
 }
 
 // Where the words went that were done.
-fn print_done(c: Command, s: Stretch) {
+fn print_done(out: &mut impl Write, c: Command, s: Stretch) -> io::Result<()> {
     let t = c.transfer;
     let d = camac::direction_of(t);
     match d {
         Direction::Incoming => {
-            print(b"stored at ");
-            print_place(s);
+            print(out, b"stored at ")?;
+            print_place(out, s)?;
             if c.wide {
-                print(b", Q and X in bits 31 and 30");
+                print(out, b", Q and X in bits 31 and 30")?;
             }
+            Ok(())
         }
         Direction::Outgoing => {
-            print(b"taken from ");
-            print_place(s);
+            print(out, b"taken from ")?;
+            print_place(out, s)
         }
-        Direction::Neither => print(b"done"),
+        Direction::Neither => print(out, b"done"),
     }
 }
 
 // The bytes of words in their buffer.
-fn print_place(s: Stretch) {
+fn print_place(out: &mut impl Write, s: Stretch) -> io::Result<()> {
     let first = s.first;
     let last = s.last;
-    print_number(first.from);
-    print(b" to ");
-    print_number(last.to);
+    print_number(out, first.from)?;
+    print(out, b" to ")?;
+    print_number(out, last.to)?;
     if first.padded {
-        print(b", behind 2 pad bytes");
+        print(out, b", behind 2 pad bytes")?;
     }
+    Ok(())
 }
 
 // The flags as an answer; what is asked of it is whether its word is done.

@@ -1,37 +1,52 @@
 // What is printed: text, numbers, rows of bytes.
 ghost use Rattle.std.specs.Prelude.{◌≤◌};
 
-pub(crate) fn print(text: &[u8]) {
-    io::write_all(1, text);
+use std::io;
+use std::io::Write;
+
+pub(crate) fn print(out: &mut impl Write, text: &[u8]) -> io::Result<()> {
+    out.write_all(text)
 }
 
-pub(crate) fn print_number(n: u64) {
-    io::print_decimal(1, n);
+pub(crate) fn print_number(out: &mut impl Write, n: u64) -> io::Result<()> {
+    write!(out, "{n}")
 }
 
 // A number at the right end of a column of so many characters.
-pub(crate) fn print_column(n: u64, width: usize) {
-    let mut digits = [0u8; 20];
-    let used = io::decimal(n, &mut digits);
-    print_blanks(base::less(width as u64, used as u64));
-    print_number(n);
+pub(crate) fn print_column(out: &mut impl Write, n: u64, width: usize) -> io::Result<()> {
+    print_blanks(out, base::less(width as u64, digits_of(n)))?;
+    print_number(out, n)
 }
 
-pub(crate) fn print_blanks(n: u64) {
-    let mut left = n;
-    while 0 < left {
-        print(b" ");
-        left -= 1;
+// How many decimal digits a number has.
+fn digits_of(n: u64) -> u64 {
+    match n.checked_ilog10() {
+        Some(power) => power as u64 + 1,
+        None => 1,
     }
 }
 
+pub(crate) fn print_blanks(out: &mut impl Write, n: u64) -> io::Result<()> {
+    let mut left = n;
+    while 0 < left {
+        print(out, b" ")?;
+        left -= 1;
+    }
+    Ok(())
+}
+
 // A number of one thing, or of several.
-pub(crate) fn print_plural(n: u64, one: &[u8], several: &[u8]) {
-    print_number(n);
+pub(crate) fn print_plural(
+    out: &mut impl Write,
+    n: u64,
+    one: &[u8],
+    several: &[u8],
+) -> io::Result<()> {
+    print_number(out, n)?;
     if n == 1 {
-        print(one);
+        print(out, one)
     } else {
-        print(several);
+        print(out, several)
     }
 }
 
@@ -42,46 +57,51 @@ fn digit(n: u32) -> u8 {
 }
 
 // The lowest hexadecimal digits of a number. A longword has eight.
-pub(crate) fn print_hex(n: u32, digits: u32)
+pub(crate) fn print_hex(out: &mut impl Write, n: u32, digits: u32) -> io::Result<()>
     requires { digits ≤ 8 }
 {
     let mut left = digits;
     while 0 < left {
         left -= 1;
-        print(&[digit(n >> (4 * left))]);
+        print(out, &[digit(n >> (4 * left))])?;
     }
+    Ok(())
 }
 
 // A word of 16 or of 24 bits.
-pub(crate) fn print_word(wide: bool, n: u32) {
+pub(crate) fn print_word(out: &mut impl Write, wide: bool, n: u32) -> io::Result<()> {
     if wide {
-        print_hex(n, 6);
+        print_hex(out, n, 6)?;
     } else {
-        print_hex(n, 4);
+        print_hex(out, n, 4)?;
     }
-    print(b"h");
+    print(out, b"h")
 }
 
 // Bytes, each behind a blank.
-pub(crate) fn print_bytes(bytes: &[u8]) {
+pub(crate) fn print_bytes(out: &mut impl Write, bytes: &[u8]) -> io::Result<()> {
     let mut at: usize = 0;
     while at < bytes.len() {
-        print(b" ");
-        print_hex(base::u32_of(bytes[at]), 2);
+        print(out, b" ")?;
+        print_hex(out, base::u32_of(bytes[at]), 2)?;
         at += 1;
     }
+    Ok(())
 }
 
 // Up to so many bytes of a row from a place on.
-pub(crate) fn print_some(bytes: &[u8], place: usize, most: usize) {
+pub(crate) fn print_some(
+    out: &mut impl Write,
+    bytes: &[u8],
+    place: usize,
+    most: usize,
+) -> io::Result<()> {
     if bytes.len() <= place {
-        print(b" none");
-        return;
+        return print(out, b" none");
     }
     if bytes.len() - place <= most {
-        print_bytes(&bytes[place..]);
-        return;
+        return print_bytes(out, &bytes[place..]);
     }
     let end = place + most;
-    print_bytes(&bytes[place..end]);
+    print_bytes(out, &bytes[place..end])
 }

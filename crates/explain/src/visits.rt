@@ -6,13 +6,20 @@ use crate::text::{print, print_column, print_number, print_plural};
 use camac::Transfer;
 use listfile::{Instruction, Sizes};
 use qmodes::{QMode, ScanPosition};
+use std::io;
+use std::io::Write;
 use walk::{Counts, Turn};
 
 const HEADS: [u8; 97] =
     *b"\nwalk, with no block short\n number  operations at most        incoming mark        outgoing mark\n";
 
 // Every visit of a list that passed 1 to 10.
-pub(crate) fn print_walk(list: &[u8], table: &[u16], sizes: Sizes)
+pub(crate) fn print_walk(
+    out: &mut impl Write,
+    list: &[u8],
+    table: &[u16],
+    sizes: Sizes,
+) -> io::Result<()>
     requires { (sizes.count ≤ length table.now) × ((sizes.count ≤ 4096) × ((sizes.limit < 2 ^ 16) × TableRight list.now table.now sizes.count)) }
 {
     let count = sizes.count;
@@ -24,7 +31,7 @@ pub(crate) fn print_walk(list: &[u8], table: &[u16], sizes: Sizes)
         incoming: 0,
         outgoing: 0,
     };
-    print(&HEADS);
+    print(out, &HEADS)?;
     let mut seen = [false; 4096];
     while visits < count {
         let k = here.instruction;
@@ -38,59 +45,75 @@ pub(crate) fn print_walk(list: &[u8], table: &[u16], sizes: Sizes)
         let place = table[k];
         let turn = walk::turn_at(list, place, here, limit, sums);
         let Turn::To(next, after) = turn else {
-            print_column(k as u64, 7);
-            print(b"  halt\n");
-            return;
+            print_column(out, k as u64, 7)?;
+            return print(out, b"  halt\n");
         };
-        print_visit(k, sums, after);
-        print_why(listfile::instruction_at(list, place), limit, sums, after);
+        print_visit(out, k, sums, after)?;
+        print_why(
+            out,
+            listfile::instruction_at(list, place),
+            limit,
+            sums,
+            after,
+        )?;
         here = next;
         sums = after;
         visits += 1;
     }
-    print_lost(count, here.instruction);
+    print_lost(out, count, here.instruction)
 }
 
 // The instruction that is visited, its share of W, and the marks before and after it.
-fn print_visit(k: usize, before: Counts, after: Counts) {
-    print_column(k as u64, 7);
-    print_column(base::less(after.worst, before.worst), 20);
-    print_marks(before.incoming, after.incoming);
-    print_marks(before.outgoing, after.outgoing);
+fn print_visit(out: &mut impl Write, k: usize, before: Counts, after: Counts) -> io::Result<()> {
+    print_column(out, k as u64, 7)?;
+    print_column(out, base::less(after.worst, before.worst), 20)?;
+    print_marks(out, before.incoming, after.incoming)?;
+    print_marks(out, before.outgoing, after.outgoing)
 }
 
 // How a visit's share of W comes about, and the pad where longwords follow a mark that is no multiple of 4.
-fn print_why(i: Instruction, limit: u64, before: Counts, after: Counts) {
+fn print_why(
+    out: &mut impl Write,
+    i: Instruction,
+    limit: u64,
+    before: Counts,
+    after: Counts,
+) -> io::Result<()> {
     let stored = (before.incoming < after.incoming) & (before.incoming % 4 == 2);
     let taken = (before.outgoing < after.outgoing) & (before.outgoing % 4 == 2);
     if let Instruction::Camac(c) = i {
         let t = c.transfer;
-        print_share(limit, t);
+        print_share(out, limit, t)?;
     }
     if is_of_longwords(i) & (stored | taken) {
-        print(b"  2 pad bytes first");
+        print(out, b"  2 pad bytes first")?;
     }
-    print(b"\n");
+    print(out, b"\n")
 }
 
 // Words; in repeat with the tries of each; in scan the lesser of its positions and of its words with a miss at each station.
-fn print_share(limit: u64, t: Transfer) {
+fn print_share(out: &mut impl Write, limit: u64, t: Transfer) -> io::Result<()> {
     let q = camac::qmode_of(t);
     let p = camac::position_of(t);
     let n = camac::words_of(t);
-    print(b"  ");
+    print(out, b"  ")?;
     match q {
-        QMode::Stop => print_plural(n, b" word", b" words"),
-        QMode::Ignore => print_plural(n, b" word", b" words"),
+        QMode::Stop => print_plural(out, n, b" word", b" words"),
+        QMode::Ignore => print_plural(out, n, b" word", b" words"),
         QMode::Repeat => {
-            print_plural(n, b" word, ", b" words, ");
-            print_plural(limit, b" try each", b" tries each");
+            print_plural(out, n, b" word, ", b" words, ")?;
+            print_plural(out, limit, b" try each", b" tries each")
         }
         QMode::Scan => {
-            print_plural(n, b" word less 1, and ", b" words less 1, and ");
-            print_plural(base::less(24, p.station as u64), b" station", b" stations");
-            print(b"; at most ");
-            print_plural(positions_from(p), b" position", b" positions");
+            print_plural(out, n, b" word less 1, and ", b" words less 1, and ")?;
+            print_plural(
+                out,
+                base::less(24, p.station as u64),
+                b" station",
+                b" stations",
+            )?;
+            print(out, b"; at most ")?;
+            print_plural(out, positions_from(p), b" position", b" positions")
         }
     }
 }
@@ -112,20 +135,20 @@ fn is_of_longwords(i: Instruction) -> bool {
     }
 }
 
-fn print_marks(before: u64, after: u64) {
-    print_column(before, 10);
-    print(b" to ");
-    print_column(after, 7);
+fn print_marks(out: &mut impl Write, before: u64, after: u64) -> io::Result<()> {
+    print_column(out, before, 10)?;
+    print(out, b" to ")?;
+    print_column(out, after, 7)
 }
 
 // Where a walk comes to that doesn't halt.
-fn print_lost(count: usize, k: usize) {
-    print(b"  the walk ");
+fn print_lost(out: &mut impl Write, count: usize, k: usize) -> io::Result<()> {
+    print(out, b"  the walk ")?;
     if k < count {
-        print(b"comes to instruction ");
-        print_number(k as u64);
-        print(b" again\n");
+        print(out, b"comes to instruction ")?;
+        print_number(out, k as u64)?;
+        print(out, b" again\n")
     } else {
-        print(b"passes the last field\n");
+        print(out, b"passes the last field\n")
     }
 }

@@ -5,7 +5,7 @@ use lib.ListN.{length}
 use Rattle.camrun.proofs.run_replies.Given as goal
 
 abbrev pub invariant-loop-left : goal.invariant-loop-left
-invariant-loop-left l = (l.at + 8 * l.left ≤ length l.replies) × (length l.incoming ≡ length l.initial.incoming)
+invariant-loop-left g l = (l.at + 8 * l.left ≤ length l.replies) × (length l.incoming ≡ length l.initial.incoming)
 
 abbrev pub decreases-loop-left : goal.decreases-loop-left
-decreases-loop-left l = l.left
+decreases-loop-left g l = l.left

@@ -4,6 +4,6 @@ use Rattle.walk.proofs.PrepareLaws.{table_passed}
 use Rattle.explain.proofs.explain.Goals as goal
 
 pub print_walk-requires : goal.print_walk-requires
-print_walk-requires c =
+print_walk-requires g c =
     let passed = table_passed _ _ _ _ c.in-Passed.is c.check_list-checked.ensures.1 in
     (omega (arith, passed.0, c.check_list-checked.auto.table), passed)

@@ -3,7 +3,7 @@ use Prim.Native.Nat.{◌≤◌}
 use Rattle.explain.proofs.text.print_hex.Given as goal
 
 abbrev pub invariant-loop-left : goal.invariant-loop-left
-invariant-loop-left l = l.left ≤ 8
+invariant-loop-left g l = l.left ≤ 8
 
 abbrev pub decreases-loop-left : goal.decreases-loop-left
-decreases-loop-left l = l.left
+decreases-loop-left g l = l.left

@@ -1,5 +1,4 @@
--- Each visit adds at most 2^48 to each sum, and every instruction visited lies in the table. The measure is the visits left.
-use Prim.Native.Nat.{◌-◌}
+-- The place of the instruction visited is that of a field that passed, and the sums stay small.
 use mathlib.Core.Path.{refl, sym, ◌∙◌, subst}
 use native.Mathlib.Omega.{arith}
 use Rattle.listfile.specs.model.Table.{FieldPassed}
@@ -7,7 +6,7 @@ use Rattle.walk.proofs.SumLaws.{sums_more, turn_sums_to, words_few}
 use Rattle.explain.proofs.visits.print_walk.Goals as goal
 
 pub turn_at-turn-requires : goal.turn_at-turn-requires
-turn_at-turn-requires c =
+turn_at-turn-requires g c =
     let right = c.requires.1.1.1 in
     let below = c.if-count-k.false in (
       c.requires.1.1.0,
@@ -18,6 +17,6 @@ turn_at-turn-requires c =
     )
 
 pub loop-visits-preserved : goal.loop-visits-preserved
-loop-visits-preserved c =
+loop-visits-preserved g c =
     let turn = sym c.turn_at-turn.ensures ∙ c.in-To.is in
     (omega arith, sums_more (omega arith) (turn_sums_to _ _ _ _ _ _ _ c.requires.1.1.0 (words_few _ _ _ refl) c.loop-visits.invariant.1 turn))

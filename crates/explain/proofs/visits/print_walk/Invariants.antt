@@ -4,7 +4,7 @@ use Rattle.walk.specs.model.Sums.{SumsTo}
 use Rattle.explain.proofs.visits.print_walk.Given as goal
 
 abbrev pub invariant-loop-visits : goal.invariant-loop-visits
-invariant-loop-visits l = (l.sums ≤ l.count) × SumsTo (2 ^ 48 * l.sums) l.seen
+invariant-loop-visits g l = (l.visits ≤ l.count) × SumsTo (2 ^ 48 * l.visits) l.sums
 
 abbrev pub decreases-loop-visits : goal.decreases-loop-visits
-decreases-loop-visits l = l.count - l.sums
+decreases-loop-visits g l = l.count - l.visits
