@@ -3,7 +3,6 @@ use Prim.Native.Nat.{ℕ}
 use mathlib.Core.Path.{◌≡◌, sym, ◌∙◌}
 use mathlib.Core.Bool.{Bool, ◌&&◌, ◌||◌, not, or-false}
 use native.Mathlib.Omega.{arith}
-use borrow.Author.Tests.{ne_eqb}
 use lib.Dec.{eqb}
 use Rattle.base.specs.Checks.{if◌then◌else◌}
 use Rattle.camac.specs.Words.{mode_in}
@@ -13,12 +12,9 @@ in_two : (mode : ℕ) (control enhanced inline : Bool) → mode ≡ 2
     → not (eqb 8 (if eqb mode 0 then 4 else 8)) || (eqb mode 1 && control || (eqb mode 2 && enhanced || (eqb mode 3 && inline))) ≡ enhanced
 in_two mode control enhanced inline m = rw m (or-false enhanced)
 
-pub returns-then-length-ne8 : goal.returns-then-length-ne8
-returns-then-length-ne8 c = simp (ne_eqb _ _ c.requires, ne_eqb c.args.length 8 (λ e. omega (arith, c.if-length-ne8.true)))
-
 pub returns-then-mode-eq1 : goal.returns-then-mode-eq1
 returns-then-mode-eq1 c =
-    let eight : c.args.length ≡ 8 = omega (arith, c.if-length-ne8.false) in
+    let eight : c.args.length ≡ 8 = omega arith in
     rw (
       sym c.mode_in-mode.ensures ∙ c.if-mode-eq1.true,
       eight,
@@ -29,7 +25,7 @@ returns-then-mode-eq1 c =
 
 pub returns-then-mode-eq3 : goal.returns-then-mode-eq3
 returns-then-mode-eq3 c =
-    let eight : c.args.length ≡ 8 = omega (arith, c.if-length-ne8.false) in
+    let eight : c.args.length ≡ 8 = omega arith in
     rw (
       sym c.mode_in-mode.ensures ∙ c.if-mode-eq3.true,
       eight,
@@ -39,7 +35,7 @@ returns-then-mode-eq3 c =
 
 pub returns : goal.returns
 returns c =
-    let eight : c.args.length ≡ 8 = omega (arith, c.if-length-ne8.false) in
+    let eight : c.args.length ≡ 8 = omega arith in
     let two : mode_in c.args.first ≡ 2 = let e = c.mode_in-mode.ensures in let p = c.requires in omega arith in
     rw eight
     (c.is_bad_enhanced.ensures ∙ sym (in_two _ _ _ _ two))
