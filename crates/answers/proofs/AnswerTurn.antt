@@ -10,7 +10,7 @@ use borrow.Author.Tests.{eq-eqb, ne_eqb, lt-ltb, eqb-false, ltb-true, ltb-false}
 use lib.Bits.{bit_or, or_zero_l}
 use lib.Dec.{eqb, ltb}
 use lib.ListN.{length, take, drop}
-use Rattle.base.specs.Checks.{if◌then◌else◌}
+use Rattle.std.specs.Prelude.{if◌then◌else◌}
 use Rattle.base.proofs.Tests.{on}
 use Rattle.camac.specs.Words.{qmode_of, is_block, direction_of}
 use Rattle.qmodes.specs.Scan.{after_done, after_other}

@@ -5,7 +5,8 @@ use mathlib.Core.Path.{◌≡◌, refl}
 use mathlib.Core.Bool.{Bool, true, false}
 use mathlib.Core.List.{List, [], ◌∷◌}
 use native.Mathlib.Omega.{arith}
-use Rattle.base.specs.Checks.{if◌then◌else◌, Check, first_of}
+use Rattle.std.specs.Prelude.{if◌then◌else◌}
+use Rattle.base.specs.Checks.{Check, first_of}
 
 -- no test of the row holds
 abbrev pub Passed : List Check → Type 0

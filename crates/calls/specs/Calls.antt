@@ -1,7 +1,7 @@
 -- The calls: start, step, the whole run, several replies, the last moved word (document 01, "The calls" and "Who can cause which refusal").
-use Rattle.std.specs.Prelude.{ℕ, ◌+◌, ◌≡◌, Bool, true, false, List, [], ◌∷◌, leb, eqb, length, take, drop}
+use Rattle.std.specs.Prelude.{ℕ, ◌+◌, ◌≡◌, Bool, true, false, List, [], ◌∷◌, leb, eqb, length, take, drop, if◌then◌else◌}
 use Rattle.std.proofs.Math.Option.{Option, none, some}
-use Rattle.base.specs.Checks.{if◌then◌else◌, all_of}
+use Rattle.base.specs.Checks.{all_of}
 use Rattle.base.specs.Refusals.{not_refused, refusal}
 use Rattle.camac.specs.Words.{address_of, direction_of, is_enhanced}
 use Rattle.camac.specs.declared.words.Command.{Command}

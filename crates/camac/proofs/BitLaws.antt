@@ -7,7 +7,8 @@ use mathlib.Core.List.{[], ◌∷◌}
 use native.Mathlib.Omega.{arith}
 use borrow.Author.Tests.{eq-eqb, ne_eqb, lt-ltb, le-ltb, eqb-true, eqb-false, not-false}
 use lib.Dec.{eqb}
-use Rattle.base.specs.Checks.{if◌then◌else◌, ◌gives◌, bit}
+use Rattle.std.specs.Prelude.{if◌then◌else◌}
+use Rattle.base.specs.Checks.{◌gives◌, bit}
 use Rattle.base.proofs.Bools.{and_left, and_right, or_false_left, or_false_right}
 use Rattle.base.proofs.Checks.{passed}
 use Rattle.base.proofs.Tests.{on}

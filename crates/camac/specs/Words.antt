@@ -1,7 +1,7 @@
 -- CAMAC words: what the two longwords of a CAMAC instruction say, and refusals 6 to 9 (document 01, "CAMAC words" and
 -- "Who can cause which refusal", as amended by document 02's E1; the driver manual's "Command Memory Instruction Formats").
-use Rattle.std.specs.Prelude.{ℕ, zero, suc, ◌-◌, ◌/◌, ◌%◌, ◌^◌, Bool, true, false, ◌&&◌, ◌||◌, not, [], ◌∷◌, leb, ltb, eqb}
-use Rattle.base.specs.Checks.{if◌then◌else◌, ◌gives◌, first_of, bit, bits}
+use Rattle.std.specs.Prelude.{ℕ, zero, suc, ◌-◌, ◌/◌, ◌%◌, ◌^◌, Bool, true, false, ◌&&◌, ◌||◌, not, [], ◌∷◌, leb, ltb, eqb, if◌then◌else◌}
+use Rattle.base.specs.Checks.{◌gives◌, first_of, bit, bits}
 use Rattle.qmodes.specs.Scan.{positions}
 use Rattle.qmodes.specs.Modes.{is_scan}
 use Rattle.qmodes.specs.declared.modes.QMode.{QMode}

@@ -1,6 +1,5 @@
 // CAMAC words: the decode of an instruction's longwords, refusals 6 to 9.
-ghost use Rattle.std.specs.Prelude.{◌≡◌, ℕ, eqb, length};
-ghost use Rattle.base.specs.Checks.{if◌then◌else◌};
+ghost use Rattle.std.specs.Prelude.{◌≡◌, ℕ, eqb, length, if◌then◌else◌};
 ghost use Rattle.camac.specs.Words.{mode_in, qmode_bits, qmode_numbered, qmode_in, address_in, is_control, is_write, halfwords, block_words, transfer_in, command_in, qmode_of, address_of, words_of, direction_by, enhanced_direction, direction_of, is_enhanced, is_block, position_of, zero_bit_set, bad_address, is_sequencer_at, bad_enhanced, bad_mode, bad_count, above_word, bad_second, above_p, camac_fault, decode_of};
 
 use crate::bits::{has_ad, is_scan_block, is_sequencer, is_wide, mode_in, start_in, words_in};

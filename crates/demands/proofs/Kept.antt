@@ -7,7 +7,7 @@ use mathlib.Core.List.{List, [], ◌∷◌, ◌++◌, append-nil, append_assoc}
 use lib.Dec.{eqb}
 use lib.ListN.{length}
 use Rattle.base.specs.Bytes.{byte_at, short_at}
-use Rattle.base.specs.Checks.{if◌then◌else◌}
+use Rattle.std.specs.Prelude.{if◌then◌else◌}
 use Rattle.base.specs.Refusals.{refusal}
 use Rattle.base.proofs.Bools.{and_left, and_right, both}
 use Rattle.base.proofs.Tests.{on, true_not_false}

@@ -1,8 +1,8 @@
 -- Demands kept beside the run (document 02, E2). The queue is bytes that the host lends.
-use Rattle.std.specs.Prelude.{ℕ, zero, suc, ◌+◌, ◌-◌, ◌*◌, ◌%◌, Bool, true, false, ◌&&◌, not, List, [], ◌∷◌, leb, ltb, eqb, length, set}
+use Rattle.std.specs.Prelude.{ℕ, zero, suc, ◌+◌, ◌-◌, ◌*◌, ◌%◌, Bool, true, false, ◌&&◌, not, List, [], ◌∷◌, leb, ltb, eqb, length, set, if◌then◌else◌}
 use Rattle.std.proofs.lemmas.List.Edits.{sets}
 use Rattle.base.specs.Bytes.{byte_at, short_at, short_bytes}
-use Rattle.base.specs.Checks.{if◌then◌else◌, all_of}
+use Rattle.base.specs.Checks.{all_of}
 use Rattle.base.specs.Refusals.{not_refused, refusal}
 use Rattle.demands.specs.declared.Demand.{Demand}
 use Rattle.demands.specs.declared.Queued.{Queued}

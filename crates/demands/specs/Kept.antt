@@ -1,6 +1,5 @@
 -- What a queue keeps over every list of calls (document 02, E2). The statement is Kept, last on this page; the proof is proofs/Kept.
-use Rattle.std.specs.Prelude.{ℕ, ◌+◌, ◌≡◌, Bool, true, false, List, [], ◌∷◌, ◌++◌, eqb, length, replicate}
-use Rattle.base.specs.Checks.{if◌then◌else◌}
+use Rattle.std.specs.Prelude.{ℕ, ◌+◌, ◌≡◌, Bool, true, false, List, [], ◌∷◌, ◌++◌, eqb, length, replicate, if◌then◌else◌}
 use Rattle.base.specs.Refusals.{refusal}
 use Rattle.demands.specs.declared.Demand.{Demand}
 use Rattle.demands.specs.declared.Next.{Next}

@@ -1,8 +1,7 @@
 -- The calls by numbers, as a host in C is given them (admission and the whole run by document 01; start, step and several replies are ours beside
 -- them). A record is its thirteen numbers in document 01's order. Admission's numbers are `numbers_of` of the crate walk.
-use Rattle.std.specs.Prelude.{ℕ, Bool, not, ◌&&◌, List, [], ◌∷◌, ◌++◌, leb, eqb, length, get_or}
+use Rattle.std.specs.Prelude.{ℕ, Bool, not, ◌&&◌, List, [], ◌∷◌, ◌++◌, leb, eqb, length, get_or, if◌then◌else◌}
 use Rattle.std.proofs.Math.Option.{Option, none, some}
-use Rattle.base.specs.Checks.{if◌then◌else◌}
 use Rattle.base.specs.Refusals.{refusal}
 use Rattle.base.specs.declared.Refusal.{Refusal}
 use Rattle.walk.specs.Admission.{Prepared, unfit, ready, prepare}

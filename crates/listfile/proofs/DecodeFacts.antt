@@ -10,7 +10,8 @@ use native.Mathlib.Omega.{arith}
 use borrow.Author.Tests.{leb-true, leb-false, ltb-false, eqb-false, not-false}
 use lib.Dec.{leb, ltb, eqb}
 use lib.ListN.{length}
-use Rattle.base.specs.Checks.{if◌then◌else◌, ◌gives◌}
+use Rattle.std.specs.Prelude.{if◌then◌else◌}
+use Rattle.base.specs.Checks.{◌gives◌}
 use Rattle.camac.specs.Words.{mode_in, qmode_in, address_in, wide_in, halfwords, block_words, transfer_in, command_in, address_of, words_of, is_scan_in, zero_bit_set, bad_address, bad_mode, bad_count, above_word, bad_second, above_p, camac_fault, decoded_by, decode_of}
 use Rattle.qmodes.specs.Modes.{is_scan}
 use Rattle.camac.proofs.BitLaws.{command_qmode, command_address}

@@ -12,7 +12,7 @@ use native.Mathlib.Nat.{le_of_suc-le-suc, eq-or-lt_of_le}
 use borrow.Author.Tests.{lt-leb}
 use lib.ListN.{length, get_or, set, drop, length-append, get_or-append}
 use lib.Seq.{get_or-set_same, get_or-set_other, drop-cons, drop-nil, get_or-append_seam}
-use Rattle.base.specs.Checks.{if◌then◌else◌}
+use Rattle.std.specs.Prelude.{if◌then◌else◌}
 use Rattle.listfile.specs.Fields.{next_field, field_of, number_of, Field, Fields, faulty, fields, ahead, fields_from, bad_target, first_bad_jump}
 use Rattle.listfile.specs.model.Table.{instruction_at, place_of, first_fields, FieldPassed, TableRight, TargetBelow, Beyond}
 use Rattle.listfile.specs.declared.field.Instruction.{Instruction}

@@ -1,8 +1,8 @@
 -- The list file (document 01, "The list file"; refusals 1 to 5 and 10 of "Who can cause which refusal", 6 to 9 by the crate camac).
 -- `at` is the place of a field, its first byte; `count` is how many instructions stand before it.
-use Rattle.std.specs.Prelude.{ℕ, zero, suc, ◌+◌, min, Bool, true, false, ◌&&◌, ◌||◌, not, List, [], ◌∷◌, leb, ltb, eqb, length}
+use Rattle.std.specs.Prelude.{ℕ, zero, suc, ◌+◌, min, Bool, true, false, ◌&&◌, ◌||◌, not, List, [], ◌∷◌, leb, ltb, eqb, length, if◌then◌else◌}
 use Rattle.std.proofs.Math.Option.{Option, none, some}
-use Rattle.base.specs.Checks.{if◌then◌else◌, Check, ◌gives◌, first_of}
+use Rattle.base.specs.Checks.{Check, ◌gives◌, first_of}
 use Rattle.camac.specs.Words.{decode_of}
 use Rattle.camac.specs.declared.words.Decoded.{Decoded}
 use Rattle.camac.specs.declared.words.Decoded.TheVariants.{Carried}

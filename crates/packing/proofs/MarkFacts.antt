@@ -10,7 +10,7 @@ use lib.Dec.{eqb}
 use lib.ListN.{length, get_or, replicate, length-append, length-replicate}
 use lib.Seq.{sets, length-sets}
 use Rattle.base.specs.Bytes.{short_bytes, long_bytes}
-use Rattle.base.specs.Checks.{if◌then◌else◌}
+use Rattle.std.specs.Prelude.{if◌then◌else◌}
 use Rattle.base.proofs.Puts.{sets_other, zeros_left}
 use Rattle.base.proofs.Tests.{on}
 use Rattle.packing.specs.Packing.{pad_at, aligned_mark, width_of, mark_after, mark_after_words, bytes_of, stored}

@@ -1,8 +1,7 @@
 -- Fill marks and the bytes of words (document 01, "Packing"; the driver manual's "Data FIFO Register").
-use Rattle.std.specs.Prelude.{ℕ, zero, suc, ◌+◌, ◌*◌, ◌%◌, Bool, true, false, List, ◌++◌, replicate, get_or}
+use Rattle.std.specs.Prelude.{ℕ, zero, suc, ◌+◌, ◌*◌, ◌%◌, Bool, true, false, List, ◌++◌, replicate, get_or, if◌then◌else◌}
 use Rattle.std.proofs.lemmas.List.Edits.{sets}
 use Rattle.base.specs.Bytes.{short_bytes, long_bytes}
-use Rattle.base.specs.Checks.{if◌then◌else◌}
 
 -- "If the mark modulo 4 is 2, two zero bytes come first": before a 24-bit word or a literal. "The fill mark is always even, so the aligned mark
 -- is mark + mark modulo 4" (E3). "The pad bytes and every answer are as before" (E3): for an even mark these are the same, pad_as_before in

@@ -7,7 +7,7 @@ use mathlib.Core.Logic.{◌⊎◌, inl, inr}
 use native.Mathlib.Omega.{arith}
 use lib.Dec.{leb, ltb}
 use borrow.Author.Tests.{ltb-true, ltb-false, leb-true, leb-false, le-leb, lt-leb}
-use Rattle.base.specs.Checks.{if◌then◌else◌}
+use Rattle.std.specs.Prelude.{if◌then◌else◌}
 use Rattle.qmodes.specs.Scan.{stations, positions, after_done, after_other}
 use Rattle.qmodes.specs.declared.modes.QMode.TheVariants.{Scan}
 use Rattle.qmodes.specs.declared.scan.ScanPosition.{ScanPosition}

@@ -1,7 +1,6 @@
 -- What each Q-mode does (document 01, "One operation, one reply", "Worst count" and the paragraph on fit): each question a table over stop,
 -- ignore, repeat and scan. "Q-mode 0 stop, 1 ignore, 2 repeat, 3 scan"; R is the try limit, `left` the words left of the instruction.
-use Rattle.std.specs.Prelude.{ℕ, ◌+◌, ◌-◌, ◌*◌, min, Bool, true, false, ◌&&◌, ◌||◌, not, leb, ltb, eqb}
-use Rattle.base.specs.Checks.{if◌then◌else◌}
+use Rattle.std.specs.Prelude.{ℕ, ◌+◌, ◌-◌, ◌*◌, min, Bool, true, false, ◌&&◌, ◌||◌, not, leb, ltb, eqb, if◌then◌else◌}
 use Rattle.qmodes.specs.Scan.{stations, positions, after_answer}
 use Rattle.qmodes.specs.declared.modes.QMode.{QMode}
 use Rattle.qmodes.specs.declared.modes.QMode.TheVariants.{Stop, Ignore, Repeat, Scan}

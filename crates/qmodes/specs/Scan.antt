@@ -1,6 +1,5 @@
 -- A scan's position (document 01, "One operation, one reply" and "Worst count").
-use Rattle.std.specs.Prelude.{ℕ, ◌+◌, ◌-◌, ◌*◌, Bool, ltb}
-use Rattle.base.specs.Checks.{if◌then◌else◌}
+use Rattle.std.specs.Prelude.{ℕ, ◌+◌, ◌-◌, ◌*◌, Bool, ltb, if◌then◌else◌}
 use Rattle.qmodes.specs.declared.scan.ScanPosition.{ScanPosition}
 use Rattle.qmodes.specs.declared.scan.Moved.{Moved}
 use Rattle.qmodes.specs.declared.scan.Moved.TheVariants.{At, RanOff}

@@ -1,8 +1,7 @@
 // What each Q-mode does: one question a function, one arm a Q-mode. specs/Modes is the same page in symbols.
-ghost use Rattle.std.specs.Prelude.{◌≡◌, ◌+◌, ◌-◌, ◌*◌, ◌^◌, ◌<◌, ◌≤◌, min, leb};
+ghost use Rattle.std.specs.Prelude.{◌≡◌, ◌+◌, ◌-◌, ◌*◌, ◌^◌, ◌<◌, ◌≤◌, min, leb, if◌then◌else◌};
 ghost use Rattle.qmodes.specs.Scan.{stations, positions};
 ghost use Rattle.qmodes.specs.Modes.{worst_words, is_scan, done, left_after, leaves, spent, scan_leaves, no_x, no_qin_stop, tries_after, position_after, most_left, tries_fit, same_position, position_fits};
-ghost use Rattle.base.specs.Checks.{if◌then◌else◌};
 ghost use Rattle.qmodes.specs.model.Answers.{word_flags, wait_flags, can_wait, words_ahead, place_after_words, place_after_wait};
 
 use crate::scan::{Moved, ScanPosition};

@@ -8,7 +8,8 @@ use mathlib.Core.List.{List, [], ◌∷◌}
 use native.Mathlib.Omega.{arith}
 use native.Mathlib.Nat.{max-le, le-max_left}
 use lib.Dec.{eqb}
-use Rattle.base.specs.Checks.{if◌then◌else◌, Check, ◌gives◌, first_of}
+use Rattle.std.specs.Prelude.{if◌then◌else◌}
+use Rattle.base.specs.Checks.{Check, ◌gives◌, first_of}
 use Rattle.base.proofs.Checks.{Numbered, FirstAt, number_at, first_at_lem}
 use Rattle.camac.specs.Words.{qmode_of, is_block}
 use Rattle.qmodes.specs.declared.modes.QMode.{QMode}

@@ -5,7 +5,7 @@ use mathlib.Core.Path.{◌≡◌}
 use mathlib.Core.Bool.{Bool, true, false}
 use native.Mathlib.Omega.{arith}
 use Rattle.base.specs.Bytes.{short_bytes}
-use Rattle.base.specs.Checks.{if◌then◌else◌}
+use Rattle.std.specs.Prelude.{if◌then◌else◌}
 use Rattle.qmodes.specs.declared.modes.Answer.{Answer}
 use Rattle.reply.specs.Effect.{longword_of}
 use Rattle.reply.specs.declared.replies.Reply.TheVariants.{Answered}

@@ -12,7 +12,7 @@ use lib.Dec.{leb, eqb}
 use lib.ListN.{length, take, drop, get_or}
 use lib.Seq.{get_or-take, get_or-drop}
 use Rattle.base.specs.Bytes.{byte_at}
-use Rattle.reply.specs.Replies.{answer_in, of_kind, has_form, reply_of, is_some, is_formed}
+use Rattle.reply.specs.Replies.{answer_in, of_kind, has_form, reply_of, is_some_reply, is_formed}
 use Rattle.qmodes.specs.declared.modes.Answer.{Answer}
 use Rattle.reply.specs.declared.replies.Reply.{Reply}
 use Rattle.reply.specs.declared.replies.Reply.TheVariants.{Answered, Timeout, NotRecognised, NoSync}
@@ -49,7 +49,7 @@ answer_read bytes f d e g ef ed ee eg = rw (← ef, ← ed, ← ee, ← eg) (sim
 
 -- Form -------------------------------------------------------------------------------------------------------------------
 
-kind_known : (k : ℕ) (a : Answer) → is_some (of_kind k a) ≡ leb k 3
+kind_known : (k : ℕ) (a : Answer) → is_some_reply (of_kind k a) ≡ leb k 3
 kind_known zero a = refl
 kind_known (suc zero) a = refl
 kind_known (suc (suc zero)) a = refl
@@ -74,7 +74,7 @@ unformed bytes h = on (is_formed bytes) (λ e. absurd (h e)) (λ e. sym e)
 pub unformed_none : (bytes : List ℕ) → is_formed bytes ≡ false → reply_of bytes ≡ none
 unformed_none bytes e = go (reply_of bytes) e
   where
-    go : (x : Option Reply) → is_some x ≡ false → x ≡ none
+    go : (x : Option Reply) → is_some_reply x ≡ false → x ≡ none
     go none e = refl
     go (some r) e = absurd (true_not_false e)
 
@@ -96,11 +96,11 @@ module _ (bytes : List ℕ) (formed : is_formed bytes ≡ true) where
 
   pub reply_no_sync :
       ¬ (byte_at bytes 0 ≡ 0) → ¬ (byte_at bytes 0 ≡ 1) → ¬ (byte_at bytes 0 ≡ 2) → reply_of bytes ≡ some NoSync
-  reply_no_sync a b c = reply_kind ∙ go (byte_at bytes 0) a b c (ap is_some (sym reply_kind) ∙ formed)
+  reply_no_sync a b c = reply_kind ∙ go (byte_at bytes 0) a b c (ap is_some_reply (sym reply_kind) ∙ formed)
     where
       go :
           (k : ℕ) → ¬ (k ≡ 0) → ¬ (k ≡ 1) → ¬ (k ≡ 2)
-          → is_some (of_kind k (answer_in bytes)) ≡ true → of_kind k (answer_in bytes) ≡ some NoSync
+          → is_some_reply (of_kind k (answer_in bytes)) ≡ true → of_kind k (answer_in bytes) ≡ some NoSync
       go zero a b c e = absurd (a refl)
       go (suc zero) a b c e = absurd (b refl)
       go (suc (suc zero)) a b c e = absurd (c refl)

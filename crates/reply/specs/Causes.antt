@@ -1,6 +1,6 @@
 -- When a word is done, and what ends a run (document 01, "One operation, one reply").
-use Rattle.std.specs.Prelude.{ℕ, max, Bool, false, ◌&&◌, ◌||◌, not, List, [], ◌∷◌, eqb}
-use Rattle.base.specs.Checks.{if◌then◌else◌, Check, ◌gives◌}
+use Rattle.std.specs.Prelude.{ℕ, max, Bool, false, ◌&&◌, ◌||◌, not, List, [], ◌∷◌, eqb, if◌then◌else◌}
+use Rattle.base.specs.Checks.{Check, ◌gives◌}
 use Rattle.camac.specs.Words.{qmode_of, is_block}
 use Rattle.camac.specs.declared.words.Transfer.{Transfer}
 use Rattle.qmodes.specs.declared.modes.QMode.{QMode}

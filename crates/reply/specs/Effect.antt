@@ -1,8 +1,7 @@
 -- What a reply does to the record and the incoming buffer, and the run along the walk to the next operation or the end (document 01,
 -- "One operation, one reply", "Packing", "The calls").
-use Rattle.std.specs.Prelude.{ℕ, ◌+◌, ◌*◌, ◌%◌, ◌^◌, Bool, true, false, ◌&&◌, List, [], ◌∷◌, eqb}
+use Rattle.std.specs.Prelude.{ℕ, ◌+◌, ◌*◌, ◌%◌, ◌^◌, Bool, true, false, ◌&&◌, List, [], ◌∷◌, eqb, if◌then◌else◌}
 use Rattle.std.specs.Int.Bits.{bit_or}
-use Rattle.base.specs.Checks.{if◌then◌else◌}
 use Rattle.camac.specs.Words.{qmode_of, words_of, direction_of, position_of}
 use Rattle.camac.specs.declared.words.Command.{Command}
 use Rattle.camac.specs.declared.words.Direction.{Direction}

@@ -1,7 +1,7 @@
 -- Replies (document 01, "One operation, one reply", first paragraph; refusal 22).
-use Rattle.std.specs.Prelude.{ℕ, zero, suc, ◌+◌, ◌*◌, Bool, true, false, ◌||◌, List, [], ◌∷◌, ltb, eqb, length, take, drop}
+use Rattle.std.specs.Prelude.{ℕ, zero, suc, ◌+◌, ◌*◌, Bool, true, false, ◌||◌, List, [], ◌∷◌, ltb, eqb, length, take, drop, if◌then◌else◌}
 use Rattle.std.proofs.Math.Option.{Option, none, some}
-use Rattle.base.specs.Checks.{if◌then◌else◌, all_of, bit}
+use Rattle.base.specs.Checks.{all_of, bit}
 use Rattle.base.specs.Bytes.{byte_at}
 use Rattle.qmodes.specs.declared.modes.Answer.{Answer}
 use Rattle.reply.specs.declared.replies.Reply.{Reply}
@@ -47,12 +47,12 @@ has_form bytes = all_of (
 unfoldable pub reply_of : List ℕ → Option Reply
 reply_of bytes = if has_form bytes then of_kind (byte_at bytes 0) (answer_in bytes) else none
 
-abbrev pub is_some : Option Reply → Bool
-is_some none = false
-is_some (some r) = true
+abbrev pub is_some_reply : Option Reply → Bool
+is_some_reply none = false
+is_some_reply (some r) = true
 
 abbrev pub is_formed : List ℕ → Bool
-is_formed bytes = is_some (reply_of bytes)
+is_formed bytes = is_some_reply (reply_of bytes)
 
 -- A row of replies, cut into pieces of 8 bytes: where its length is "not a multiple of 8", the last piece is no reply. A piece has at
 -- least one byte, so that fuel for each byte suffices; the laws of proofs/Rows cut a row without it.

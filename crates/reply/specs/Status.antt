@@ -1,7 +1,6 @@
 -- The status word (document 01, "Status"; the driver manual's "Control/Status Register").
-use Rattle.std.specs.Prelude.{ℕ, ◌/◌, ◌^◌, Bool, true, ◌||◌, not, List, [], ◌∷◌}
+use Rattle.std.specs.Prelude.{ℕ, ◌/◌, ◌^◌, Bool, true, ◌||◌, not, List, [], ◌∷◌, if◌then◌else◌}
 use Rattle.std.specs.Int.Bits.{bit_or}
-use Rattle.base.specs.Checks.{if◌then◌else◌}
 use Rattle.camac.specs.Words.{qmode_of}
 use Rattle.camac.specs.declared.words.Command.{Command}
 use Rattle.qmodes.specs.Modes.{spent, scan_leaves}

@@ -1,6 +1,5 @@
 // The status bits of a reply.
-ghost use Rattle.std.specs.Prelude.{◌≡◌, ◌^◌, ◌<◌, ◌||◌};
-ghost use Rattle.base.specs.Checks.{if◌then◌else◌};
+ghost use Rattle.std.specs.Prelude.{◌≡◌, ◌^◌, ◌<◌, ◌||◌, if◌then◌else◌};
 ghost use Rattle.reply.specs.Status.{flags_of};
 
 use crate::records::Record;

@@ -6,7 +6,7 @@ use mathlib.Core.Bool.{Bool, true, false, ◌&&◌, not, false≢true, and-false
 use borrow.Author.Tests.{not-true}
 use lib.Bits.{bit_and}
 use lib.Dec.{eqb}
-use Rattle.base.specs.Checks.{if◌then◌else◌}
+use Rattle.std.specs.Prelude.{if◌then◌else◌}
 use Rattle.base.proofs.Bools.{and_left, and_right}
 use Rattle.qmodes.specs.Modes.{done, no_x, no_qin_stop}
 use Rattle.qmodes.specs.model.Answers.{word_flags, wait_flags, can_wait}

@@ -10,7 +10,7 @@ use lib.Dec.{eqb}
 use lib.ListN.{get_or}
 use lib.Pow.{pow_pos}
 use Rattle.base.specs.Bytes.{quad_at, Bytes}
-use Rattle.base.specs.Checks.{if◌then◌else◌}
+use Rattle.std.specs.Prelude.{if◌then◌else◌}
 use Rattle.row.specs.model.Words.{flags_at, flag_bits, gathered_bits, raised, raised_over, raised_bits}
 use Rattle.row.proofs.Tried.{all_below, tried}
 use Rattle.row.proofs.BitLaws.{and_or, or_swap, or_none}

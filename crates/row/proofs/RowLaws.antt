@@ -9,8 +9,8 @@ use borrow.Author.Tests.{eqb-true, eqb-false}
 use lib.Dec.{eqb}
 use lib.ListN.{length, take, drop, length-take, length-drop, drop_of_length-le}
 use lib.Seq.{drop-drop}
-use Rattle.base.specs.Checks.{if◌then◌else◌}
-use Rattle.reply.specs.Replies.{reply_of, is_some, is_formed, replies_in, all_formed}
+use Rattle.std.specs.Prelude.{if◌then◌else◌}
+use Rattle.reply.specs.Replies.{reply_of, is_some_reply, is_formed, replies_in, all_formed}
 use Rattle.reply.specs.declared.replies.Reply.{Reply}
 use Rattle.base.proofs.Tests.{on}
 use Rattle.reply.proofs.ReplyFacts.{formed_length, unformed}
@@ -27,7 +27,7 @@ pub formed_head : (r : List ℕ) (rs : List (List ℕ)) → all_formed (r ∷ rs
 unfolding all_formed
 formed_head r rs h = go (reply_of r) refl h
   where
-    go : (x : Option Reply) → reply_of r ≡ x → (if is_some x then all_formed rs else false) ≡ true → FormedHead r rs
+    go : (x : Option Reply) → reply_of r ≡ x → (if is_some_reply x then all_formed rs else false) ≡ true → FormedHead r rs
     go none e h = absurd (false≢true h)
     go (some reply) e h = record { reply = reply; is = e; rest = h }
 

@@ -1,7 +1,6 @@
 // A row of replies: whether it is formed, how many answers come first, and the status bits of some of them. A reply is read as one number.
-ghost use Rattle.std.specs.Prelude.{◌≡◌, ◌+◌, ◌-◌, ◌*◌, ◌/◌, ◌%◌, ◌<◌, ◌≤◌, eqb, length, get_or};
+ghost use Rattle.std.specs.Prelude.{◌≡◌, ◌+◌, ◌-◌, ◌*◌, ◌/◌, ◌%◌, ◌<◌, ◌≤◌, eqb, length, get_or, if◌then◌else◌};
 ghost use Rattle.std.specs.Int.Bits.{bit_and};
-ghost use Rattle.base.specs.Checks.{if◌then◌else◌};
 ghost use Rattle.row.specs.model.Words.{ReadAs, StretchReadAs, BitsOver, gathered_bits, raised_over, raised_bits};
 
 // What a row is: not formed, or formed, with a number of answers before any reply of another kind.

@@ -10,7 +10,7 @@ use borrow.Author.Tests.{eqb-true}
 use lib.Dec.{eqb}
 use lib.ListN.{length}
 use Rattle.base.specs.Bytes.{byte_at, short_at, long_at, long_bytes, Bytes}
-use Rattle.base.specs.Checks.{if◌then◌else◌}
+use Rattle.std.specs.Prelude.{if◌then◌else◌}
 use Rattle.base.specs.Refusals.{not_refused, refusal}
 use Rattle.base.proofs.Puts.{long_put}
 use Rattle.scalers.specs.declared.longwords.Way.{Way}

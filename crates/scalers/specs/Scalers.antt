@@ -1,7 +1,7 @@
 -- Decimal scalers (document 02, E10): a row of stored longwords converted from six packed decimal digits to binary, and back.
-use Rattle.std.specs.Prelude.{ℕ, zero, suc, ◌+◌, ◌*◌, ◌/◌, ◌%◌, ◌^◌, Bool, false, ◌||◌, not, List, [], ◌∷◌, ◌++◌, map, ltb, eqb, length}
+use Rattle.std.specs.Prelude.{ℕ, zero, suc, ◌+◌, ◌*◌, ◌/◌, ◌%◌, ◌^◌, Bool, false, ◌||◌, not, List, [], ◌∷◌, ◌++◌, map, ltb, eqb, length, if◌then◌else◌}
 use Rattle.base.specs.Bytes.{long_at, long_bytes}
-use Rattle.base.specs.Checks.{if◌then◌else◌, bits}
+use Rattle.base.specs.Checks.{bits}
 use Rattle.base.specs.Refusals.{not_refused, refusal}
 use Rattle.base.specs.declared.Refusal.{Refusal}
 use Rattle.scalers.specs.declared.longwords.Way.{Way}

@@ -10,7 +10,7 @@ use borrow.Author.Tests.{eqb-true, not-false}
 use lib.Dec.{eqb}
 use lib.ListN.{length, get_or}
 use Rattle.base.specs.Bytes.{byte_at, short_at, long_at}
-use Rattle.base.specs.Checks.{if◌then◌else◌}
+use Rattle.std.specs.Prelude.{if◌then◌else◌}
 use Rattle.camac.specs.Words.{command_in, words_of}
 use Rattle.camac.specs.model.Bits as bits
 use Rattle.camac.specs.declared.words.Direction.TheVariants.{Incoming}

@@ -10,7 +10,8 @@ use native.Mathlib.Omega.{arith}
 use lib.Dec.{eqb}
 use lib.Bits.{bit_or}
 use lib.ListN.{length}
-use Rattle.base.specs.Checks.{if◌then◌else◌, bit}
+use Rattle.std.specs.Prelude.{if◌then◌else◌}
+use Rattle.base.specs.Checks.{bit}
 use Rattle.camac.specs.Words.{qmode_of}
 use Rattle.camac.specs.declared.words.Command.{Command}
 use Rattle.base.proofs.Bools.{both, and_left, and_right}

@@ -8,12 +8,12 @@ use mathlib.Core.List.{List, [], ◌∷◌}
 use mathlib.Core.Option.{Option, none, some}
 use native.Mathlib.Omega.{arith}
 use lib.ListN.{length}
-use Rattle.base.specs.Checks.{if◌then◌else◌}
+use Rattle.std.specs.Prelude.{if◌then◌else◌}
 use Rattle.base.specs.Refusals.{refusal}
 use Rattle.walk.specs.Walk.{marks_over}
 use Rattle.walk.specs.Worst.{worst_over}
 use Rattle.walk.specs.Admission.{Plan, Prepared, unfit, ready, prepare}
-use Rattle.reply.specs.Replies.{reply_of, is_some, is_formed}
+use Rattle.reply.specs.Replies.{reply_of, is_some_reply, is_formed}
 use Rattle.reply.specs.Effect.{State, take_reply}
 use Rattle.calls.specs.Fit.{fits}
 use Rattle.calls.specs.Calls.{Called, refused_call, taken_call, begun, start_of, take_from, take_at, step_reply, step_prepared, step_of}
@@ -128,7 +128,7 @@ module _ (list incoming outgoing : List ℕ) (p : Plan) (prepared : prepare list
     unfolding step_of
     step_live l reply = rw (prepared_still, live_fits slow p s.run sound.distinct l, l.waits)
 
-  reply_number : (x : Option Reply) (s : State) → (step_reply p x s).refusal.number ≡ (if is_some x then 0 else 22)
+  reply_number : (x : Option Reply) (s : State) → (step_reply p x s).refusal.number ≡ (if is_some_reply x then 0 else 22)
   reply_number none s = refl
   reply_number (some r) s = refl
 

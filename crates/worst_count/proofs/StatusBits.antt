@@ -7,7 +7,8 @@ use native.Mathlib.Omega.{arith}
 use borrow.Author.Tests.{eq-eqb, ne_eqb}
 use lib.Arith.{bin_ind}
 use lib.Bits.{bit_and, bit_or, and_step, or_step, or_shr, and_shr, and_zero_l, and_zero_r, and_le_r, or_zero_l, or_lt, or_mod, and_mod}
-use Rattle.base.specs.Checks.{if◌then◌else◌, bit}
+use Rattle.std.specs.Prelude.{if◌then◌else◌}
+use Rattle.base.specs.Checks.{bit}
 use Rattle.camac.specs.Words.{qmode_of}
 use Rattle.camac.specs.declared.words.Command.{Command}
 use Rattle.qmodes.specs.Modes.{spent, scan_leaves}

@@ -4,7 +4,8 @@ use mathlib.Core.Path.{◌≡◌, refl}
 use mathlib.Core.Bool.{Bool, true, false}
 use mathlib.Core.List.{List, [], ◌∷◌}
 use native.Mathlib.Omega.{arith}
-use Rattle.base.specs.Checks.{if◌then◌else◌, Check}
+use Rattle.std.specs.Prelude.{if◌then◌else◌}
+use Rattle.base.specs.Checks.{Check}
 use Rattle.camac.specs.Words.{qmode_of, is_block, position_of}
 use Rattle.base.proofs.Checks.{Passed}
 use Rattle.walk.specs.Worst.{worst_over}

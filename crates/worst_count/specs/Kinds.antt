@@ -1,8 +1,7 @@
 -- What a run reads of a CAMAC instruction: its Q-mode, whether it is a block, words wanted, direction, N and A, word size, AD (document 02,
 -- E1). Only the operation wanted, calls/specs/Calls:operation_of, reads more:
 -- crate, function, the data of an inline write and whether it is enhanced. The statement is Kinds, last on this page; the proof is proofs/Alike.
-use Rattle.std.specs.Prelude.{ℕ, ◌≡◌, Bool, true, false, List, ltb}
-use Rattle.base.specs.Checks.{if◌then◌else◌}
+use Rattle.std.specs.Prelude.{ℕ, ◌≡◌, Bool, true, false, List, ltb, if◌then◌else◌}
 use Rattle.qmodes.specs.declared.modes.QMode.{QMode}
 use Rattle.qmodes.specs.declared.modes.QMode.TheVariants.{Ignore}
 use Rattle.camac.specs.Words.{is_control, qmode_of, is_block, words_of, direction_of, position_of, is_sequencer_at}

@@ -1,9 +1,8 @@
 -- The packing after a short block (document 02, E8): after a block that
 -- is closed every word lies where it would lie had the block been declared that short. The statement is ShortBlocks, last on this page; the
 -- proof is proofs/ShortBlocks.
-use Rattle.std.specs.Prelude.{ℕ, zero, suc, ◌-◌, ◌≡◌, true, false, List, [], ◌∷◌, ◌++◌, length}
+use Rattle.std.specs.Prelude.{ℕ, zero, suc, ◌-◌, ◌≡◌, true, false, List, [], ◌∷◌, ◌++◌, length, if◌then◌else◌}
 use Rattle.base.specs.Bytes.{Bytes}
-use Rattle.base.specs.Checks.{if◌then◌else◌}
 use Rattle.camac.specs.Words.{words_of}
 use Rattle.camac.specs.declared.words.Transfer.{Transfer}
 use Rattle.camac.specs.declared.words.Transfer.TheVariants.{Single, Block, Enhanced, Inline}

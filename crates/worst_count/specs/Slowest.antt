@@ -1,7 +1,6 @@
 -- The slowest reply: answered with it at every operation, a run makes the worst count of operations (proofs/WorstReached). In such
 -- a run each slowest reply is no cause and lowers the most still possible by exactly one.
-use Rattle.std.specs.Prelude.{ℕ, Bool, List, [], ◌∷◌}
-use Rattle.base.specs.Checks.{if◌then◌else◌}
+use Rattle.std.specs.Prelude.{ℕ, Bool, List, [], ◌∷◌, if◌then◌else◌}
 use Rattle.qmodes.specs.declared.modes.QMode.{QMode}
 use Rattle.reply.specs.declared.records.Record.{Record}
 use Rattle.qmodes.specs.Modes.{slowest_q}

@@ -1,8 +1,8 @@
 -- Demand 3 (document 01, "Worst count"): the worst count that admission reports is the true maximum. The statement is WorstCount, last on this page;
 -- the proof is proofs/Bound.
-use Rattle.std.specs.Prelude.{ℕ, suc, ◌≤◌, ◌≡◌, Bool, true, false, List, [], ◌∷◌, ◌++◌, length, get_or, eqb}
+use Rattle.std.specs.Prelude.{ℕ, suc, ◌≤◌, ◌≡◌, Bool, true, false, List, [], ◌∷◌, ◌++◌, length, get_or, eqb, if◌then◌else◌}
 use Rattle.std.proofs.Math.Option.{some}
-use Rattle.base.specs.Checks.{if◌then◌else◌, bit}
+use Rattle.base.specs.Checks.{bit}
 use Rattle.qmodes.specs.Modes.{left_after}
 use Rattle.camac.specs.Words.{qmode_of}
 use Rattle.camac.specs.declared.words.Command.{Command}

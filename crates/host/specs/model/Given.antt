@@ -1,6 +1,5 @@
 -- A record given by its numbers, as code takes and leaves it. Nothing here is a rule of document 01.
-use Rattle.std.specs.Prelude.{ℕ, ◌&&◌, List, eqb}
-use Rattle.base.specs.Checks.{if◌then◌else◌}
+use Rattle.std.specs.Prelude.{ℕ, ◌&&◌, List, eqb, if◌then◌else◌}
 use Rattle.base.specs.declared.Refusal.{Refusal}
 use Rattle.reply.specs.Effect.{zero_record}
 use Rattle.reply.specs.declared.records.Record.{Record}

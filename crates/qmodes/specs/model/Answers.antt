@@ -1,7 +1,6 @@
 -- What each Q-mode makes of an answer by its flags, and of a position as one number, N × 16 + A: for code that passes many answers at once.
 -- Nothing here is a rule of document 01: the laws of row/proofs/Flags hold it against specs/Modes over all flags.
-use Rattle.std.specs.Prelude.{ℕ, ◌+◌, ◌-◌, ◌*◌, ◌/◌, Bool, false, ltb}
-use Rattle.base.specs.Checks.{if◌then◌else◌}
+use Rattle.std.specs.Prelude.{ℕ, ◌+◌, ◌-◌, ◌*◌, ◌/◌, Bool, false, ltb, if◌then◌else◌}
 use Rattle.qmodes.specs.declared.modes.QMode.{QMode}
 use Rattle.qmodes.specs.declared.modes.QMode.TheVariants.{Stop, Ignore, Repeat, Scan}
 

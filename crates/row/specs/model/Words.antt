@@ -1,10 +1,9 @@
 -- What code reads of a row of replies and stores of it: the answers before the first reply of another kind, the words among them, their bytes and
 -- their status bits. Nothing here is a rule of document 01.
-use Rattle.std.specs.Prelude.{ℕ, zero, suc, ◌+◌, ◌*◌, ◌/◌, ◌%◌, ◌^◌, ◌≤◌, ◌<◌, ◌≡◌, Bool, true, false, ◌||◌, not, List, [], ◌∷◌, eqb, length, get_or, take, drop}
+use Rattle.std.specs.Prelude.{ℕ, zero, suc, ◌+◌, ◌*◌, ◌/◌, ◌%◌, ◌^◌, ◌≤◌, ◌<◌, ◌≡◌, Bool, true, false, ◌||◌, not, List, [], ◌∷◌, eqb, length, get_or, take, drop, if◌then◌else◌}
 use Rattle.std.specs.Int.Bits.{bit_and, bit_or, bit_xor}
 use Rattle.std.proofs.lemmas.List.Edits.{sets as written}
 use Rattle.base.specs.Bytes.{long_bytes, quad_at}
-use Rattle.base.specs.Checks.{if◌then◌else◌}
 use Rattle.qmodes.specs.declared.modes.Answer.{Answer}
 use Rattle.packing.specs.Packing.{mark_after_words, stored}
 use Rattle.reply.specs.Replies.{is_formed, replies_in, all_formed}

@@ -1,6 +1,5 @@
 -- A run on its way along the walk, as code makes it over the table of places. Nothing here is a rule of document 01.
-use Rattle.std.specs.Prelude.{ℕ, ◌^◌, ◌≤◌, ◌<◌, ◌≡◌, false, List, length, get_or}
-use Rattle.base.specs.Checks.{if◌then◌else◌}
+use Rattle.std.specs.Prelude.{ℕ, ◌^◌, ◌≤◌, ◌<◌, ◌≡◌, false, List, length, get_or, if◌then◌else◌}
 use Rattle.base.specs.Bytes.{Bytes}
 use Rattle.listfile.specs.model.Table.{instruction_at}
 use Rattle.listfile.specs.declared.check.Sizes.{Sizes}

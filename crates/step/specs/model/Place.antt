@@ -1,7 +1,6 @@
 -- The place of an instruction on the walk, as code finds it: its command, the sums before it and the worst count after it. Nothing here is
 -- a rule of document 01.
-use Rattle.std.specs.Prelude.{ℕ, ◌-◌, Bool, true, false, List, [], ◌∷◌, ◌≡◌}
-use Rattle.base.specs.Checks.{if◌then◌else◌}
+use Rattle.std.specs.Prelude.{ℕ, ◌-◌, Bool, true, false, List, [], ◌∷◌, ◌≡◌, if◌then◌else◌}
 use Rattle.camac.specs.declared.words.Command.{Command}
 use Rattle.packing.specs.declared.Marks.{Marks}
 use Rattle.listfile.specs.declared.field.Instruction.{Instruction}

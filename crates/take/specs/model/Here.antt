@@ -1,7 +1,6 @@
 -- One reply at one operation without the walk behind its last word, one visit of the walk, and what code answers by its own types.
 -- Nothing here is a rule of document 01: the laws TakeHere and Onward join these definitions to those that are.
-use Rattle.std.specs.Prelude.{ℕ, ◌^◌, ◌≤◌, ◌<◌, Bool, true, false, ◌&&◌, List, eqb, length}
-use Rattle.base.specs.Checks.{if◌then◌else◌}
+use Rattle.std.specs.Prelude.{ℕ, ◌^◌, ◌≤◌, ◌<◌, Bool, true, false, ◌&&◌, List, eqb, length, if◌then◌else◌}
 use Rattle.camac.specs.Words.{qmode_of}
 use Rattle.camac.specs.declared.words.Command.{Command}
 use Rattle.camac.specs.declared.words.Direction.TheVariants.{Incoming}

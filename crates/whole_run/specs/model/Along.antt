@@ -1,7 +1,6 @@
 -- The run along the walk between answers, as code makes it: marks beside a spot, and a stay in place of a record. Nothing here is a rule of
 -- document 01.
-use Rattle.std.specs.Prelude.{ℕ, ◌≤◌, ◌≡◌, true, false, List, length, get_or}
-use Rattle.base.specs.Checks.{if◌then◌else◌}
+use Rattle.std.specs.Prelude.{ℕ, ◌≤◌, ◌≡◌, true, false, List, length, get_or, if◌then◌else◌}
 use Rattle.camac.specs.Words.{command_in, words_of, position_of}
 use Rattle.camac.specs.model.Bits.{Passes}
 use Rattle.camac.specs.declared.words.Command.{Command}

@@ -1,8 +1,7 @@
 -- The whole run over a row of replies, as code makes it. Nothing here is a rule of document 01: the law StepsAreTakes joins `takes_over` to the
 -- definition of the whole run, and RunTurn joins words and waits to it.
-use Rattle.std.specs.Prelude.{ℕ, ◌+◌, ◌/◌, ◌≡◌, ◌⊎◌, true, List, [], ◌∷◌, drop}
+use Rattle.std.specs.Prelude.{ℕ, ◌+◌, ◌/◌, ◌≡◌, ◌⊎◌, true, List, [], ◌∷◌, drop, if◌then◌else◌}
 use Rattle.std.proofs.Math.Option.{Option, none, some}
-use Rattle.base.specs.Checks.{if◌then◌else◌}
 use Rattle.base.specs.Refusals.{not_refused}
 use Rattle.listfile.specs.declared.check.Sizes.{Sizes}
 use Rattle.walk.specs.Admission.{Plan}

@@ -4,7 +4,7 @@ use borrow.Author.Tests.{eq-eqb, ne_eqb}
 use lib.Dec.{eqb}
 use Prim.Native.Nat.{ℕ}
 use mathlib.Core.Bool.{false, ◌&&◌}
-use Rattle.base.specs.Checks.{if◌then◌else◌}
+use Rattle.std.specs.Prelude.{if◌then◌else◌}
 use Rattle.camac.specs.Words.{mode_in, qmode_bits, zero_bit_set, bad_address, bad_mode, bad_second, above_p, command_in, camac_fault}
 use Rattle.camac.proofs.BitLaws.{scan_clause, single_fault}
 use Rattle.camac.proofs.words.camac_fault.Goals as goal

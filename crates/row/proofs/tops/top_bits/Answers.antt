@@ -7,7 +7,7 @@ use borrow.Author.Tests.{eqb-true}
 use lib.Bits.{bit_xor}
 use lib.Dec.{eqb}
 use lib.ListN.{get_or}
-use Rattle.base.specs.Checks.{if◌then◌else◌}
+use Rattle.std.specs.Prelude.{if◌then◌else◌}
 use Rattle.row.proofs.Tried.{all_below, tried}
 use Rattle.row.proofs.tops.top_bits.Goals as goal
 
