@@ -2,7 +2,7 @@
  * The crate list engine for hosts in C and C++. docs/MANUAL.md has the rules: lists, replies, packing, status, refusals, and what an adapter does.
  * examples/c/drive.c is the shortest host, and examples/crate is a simulated crate to try one on. The rules are document 01's with requests E1, E2,
  * E3, E4, E8, E9 and E10 of document 02.
- * Link libhost.a, which `rt staticlib host` makes for x86-64 Linux; every function that is declared and not defined here is proved.
+ * Link libhost.a, which `tools/build host` makes for x86-64 Linux; every function that is declared and not defined here is proved.
  *
  * Which call. camlist_admit says whether a list is well formed and what it can need. A host that drives a crate calls camlist_start, makes the
  * operation that its answer wants, gives the reply to camlist_step, and so on until the record has ended. A host whose replies come many at a

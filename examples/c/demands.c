@@ -2,7 +2,7 @@
  * Drives a list while crates send demands: those that came with an operation are added to a queue, and between two steps one is served, the oldest
  * first. Then more come than a queue keeps: the overflow mark says that some were dropped, until the host clears the queue.
  *
- * `rt staticlib host` in the repository's root, then `make run` here.
+ * `tools/build host` in the repository's root, then `make run` here.
  */
 #include <inttypes.h>
 #include <stdio.h>

@@ -2,7 +2,7 @@
  * Drives a list one operation at a time: starts it, makes each operation that is wanted on a crate, which is simulated here, and gives the crate's
  * reply to the engine. Then the same replies once more, the first six by steps and the others at once from that record on.
  *
- * `rt staticlib host` in the repository's root, then `make run` here.
+ * `tools/build host` in the repository's root, then `make run` here.
  */
 #include <inttypes.h>
 #include <stdio.h>

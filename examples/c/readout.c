@@ -3,7 +3,7 @@
  * case, a digitizer read in one block, one with fewer samples than asked, a crate that falls silent, a list that is refused, 24-bit scalers
  * of which one does not answer, and scalers that count in decimal digits.
  *
- * `rt staticlib host` in the repository's root, then `make run` here.
+ * `tools/build host` in the repository's root, then `make run` here.
  */
 #include <inttypes.h>
 #include <stdio.h>

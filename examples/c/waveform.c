@@ -3,7 +3,7 @@
  * and once by rows of replies, and shown; then fewer samples than asked, the crate's other modules, a crate that falls silent and is read again, and
  * every other way in which a run ends. Demands are kept while a list runs and served after it.
  *
- * `rt staticlib host` in the repository's root, then `make run` here. With a path as its argument the program writes the waveform there as a
+ * `tools/build host` in the repository's root, then `make run` here. With a path as its argument the program writes the waveform there as a
  * picture. rust/simulated has the same program in Rust, which prints the same.
  */
 #include <inttypes.h>

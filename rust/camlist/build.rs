@@ -18,7 +18,7 @@ fn main() {
     println!("cargo::rerun-if-env-changed={REQUIRED}");
     println!("cargo::rustc-check-cfg=cfg(library)");
     if let Some(fault) = fault(&library) {
-        let command = "run `rt staticlib host` in the repository's root";
+        let command = "run `tools/build host` in the repository's root";
         let said = format!("target/staticlib/libhost.a {fault}: {command}");
         match env::var_os(REQUIRED) {
             Some(_) => println!("cargo::error={said}"),

@@ -46,12 +46,12 @@ unfolding opened
 refusal_3 = record {
   tag_00 = refl;
   tag_02 = refl;
-  tag_0_f = refl;
+  tag_0f = refl;
   tag_11 = refl;
-  tag_1_f = refl;
+  tag_1f = refl;
   tag_22 = refl;
   tag_23 = refl;
-  tag_2_e = refl;
+  tag_2e = refl;
   tag_30 = refl;
   tag_ff = refl;
   tag_01 = refl;

@@ -42,12 +42,12 @@ pub record Refusal2 : Type 0 where
 pub record Refusal3 : Type 0 where
   pub tag_00 : admit_of (first_field 3 ++ hex 8 0x00020000002F0000) 0 0 ≡ refused 3 7
   pub tag_02 : admit_of (first_field 3 ++ hex 8 0x02020000002F0000) 0 0 ≡ refused 3 7
-  pub tag_0_f : admit_of (first_field 3 ++ hex 8 0x0F020000002F0000) 0 0 ≡ refused 3 7
+  pub tag_0f : admit_of (first_field 3 ++ hex 8 0x0F020000002F0000) 0 0 ≡ refused 3 7
   pub tag_11 : admit_of (first_field 3 ++ hex 8 0x11020000002F0000) 0 0 ≡ refused 3 7
-  pub tag_1_f : admit_of (first_field 3 ++ hex 8 0x1F020000002F0000) 0 0 ≡ refused 3 7
+  pub tag_1f : admit_of (first_field 3 ++ hex 8 0x1F020000002F0000) 0 0 ≡ refused 3 7
   pub tag_22 : admit_of (first_field 3 ++ hex 8 0x22020000002F0000) 0 0 ≡ refused 3 7
   pub tag_23 : admit_of (first_field 3 ++ hex 8 0x23020000002F0000) 0 0 ≡ refused 3 7
-  pub tag_2_e : admit_of (first_field 3 ++ hex 8 0x2E020000002F0000) 0 0 ≡ refused 3 7
+  pub tag_2e : admit_of (first_field 3 ++ hex 8 0x2E020000002F0000) 0 0 ≡ refused 3 7
   pub tag_30 : admit_of (first_field 3 ++ hex 8 0x30020000002F0000) 0 0 ≡ refused 3 7
   pub tag_ff : admit_of (first_field 3 ++ hex 8 0xFF020000002F0000) 0 0 ≡ refused 3 7
   pub tag_01 : admit_of (first_field 3 ++ first_field 3 ++ halt) 0 0 ≡ refused 3 7
@@ -339,7 +339,8 @@ pub record Marks : Type 0 where
   pub read_16_literal : admit_of (first_field 3 ++ camac_4 0x02000102 ++ literal 0x12345678 ++ halt) 8 0 ≡ admitted 1 8 0
   pub write_24_16 : admit_of (first_field 3 ++ camac_4 0x02100100 ++ camac_4 0x02100102 ++ halt) 0 6 ≡ admitted 2 0 6
   pub write_16_24 : admit_of (first_field 3 ++ camac_4 0x02100102 ++ camac_4 0x02100100 ++ halt) 0 8 ≡ admitted 2 0 8
-  pub write_16_24_16_24 : admit_of (first_field 3 ++ camac_4 0x02100102 ++ camac_4 0x02100100 ++ camac_4 0x02100102 ++ camac_4 0x02100100 ++ halt) 0 16
+  pub write_16_24_16_24 :
+      admit_of (first_field 3 ++ camac_4 0x02100102 ++ camac_4 0x02100100 ++ camac_4 0x02100102 ++ camac_4 0x02100100 ++ halt) 0 16
       ≡ admitted 4 0 16
   pub write_3_of_16_24_2_of_16 :
       admit_of (first_field 3 ++ camac_8 0x02100122 0xFFFFFFFD ++ camac_4 0x02100100 ++ camac_8 0x02100122 0xFFFFFFFE ++ halt) 0 16

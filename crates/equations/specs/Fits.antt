@@ -711,7 +711,8 @@ pub record RefusedLists : Type 0 where
       ≡ refused_with 1 7 (state_of (ended 1 1 1 5 3 4 8 2 0x00000000 1 4 4) [] [])
   pub refusal_2 : step_of (first_field 0) (state_of (ended 1 1 1 5 3 4 8 2 0x00000000 1 4 4) [] []) (hex 8 0x0400000000000000)
       ≡ refused_with 2 0 (state_of (ended 1 1 1 5 3 4 8 2 0x00000000 1 4 4) [] [])
-  pub refusal_3 : step_of (first_field 3 ++ halt ++ hex 3 0x550000) (state_of (ended 1 1 1 5 3 4 8 2 0x00000000 1 4 4) [] []) (hex 8 0x0400000000000000)
+  pub refusal_3 :
+      step_of (first_field 3 ++ halt ++ hex 3 0x550000) (state_of (ended 1 1 1 5 3 4 8 2 0x00000000 1 4 4) [] []) (hex 8 0x0400000000000000)
       ≡ refused_with 3 10 (state_of (ended 1 1 1 5 3 4 8 2 0x00000000 1 4 4) [] [])
   pub refusal_4 :
       step_of (first_field 3 ++ halt ++ hex 4 0x2F010000) (state_of (ended 1 1 1 5 3 4 8 2 0x00000000 1 4 4) [] []) (hex 8 0x0400000000000000)
@@ -744,7 +745,8 @@ replies_0 =
 pub record Replies : Type 0 where
   pub length_0 : replies_0 [] ≡ refused_with 22 0 (state_of (waiting 1 3 0 5 3 4 0 0 0x00000000 0 0 4) (hex 10 0x1112131415161718191A) [])
   pub length_1 : replies_0 (hex 1 0x00) ≡ refused_with 22 0 (state_of (waiting 1 3 0 5 3 4 0 0 0x00000000 0 0 4) (hex 10 0x1112131415161718191A) [])
-  pub length_2 : replies_0 (hex 2 0x0003) ≡ refused_with 22 0 (state_of (waiting 1 3 0 5 3 4 0 0 0x00000000 0 0 4) (hex 10 0x1112131415161718191A) [])
+  pub length_2 : replies_0 (hex 2 0x0003)
+      ≡ refused_with 22 0 (state_of (waiting 1 3 0 5 3 4 0 0 0x00000000 0 0 4) (hex 10 0x1112131415161718191A) [])
   pub length_3 : replies_0 (hex 3 0x000300)
       ≡ refused_with 22 0 (state_of (waiting 1 3 0 5 3 4 0 0 0x00000000 0 0 4) (hex 10 0x1112131415161718191A) [])
   pub length_4 : replies_0 (hex 4 0x00030000)

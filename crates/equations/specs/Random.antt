@@ -239,7 +239,9 @@ pub record RandomSteps : Type 0 where
       (answer (Q + X + ERR) 0xB7799A)
       ≡ refused_with 23 0 (state_of (waiting 0 1 0 23 13 0 0 0 0x00070000 0 0 18446744073709551615) [] [])
   pub case_77 :
-      step_of (first_field 255 ++ halt) (state_of (ended 0 0 0 0 0 0 0 0 0x00000000 0 0 0) [] (hex 1 0x0A)) (answer (Q + X + ERR + TPE + LPE) 0x40AE19)
+      step_of (first_field 255 ++ halt)
+      (state_of (ended 0 0 0 0 0 0 0 0 0x00000000 0 0 0) [] (hex 1 0x0A))
+      (answer (Q + X + ERR + TPE + LPE) 0x40AE19)
       ≡ refused_with 24 0 (state_of (ended 0 0 0 0 0 0 0 0 0x00000000 0 0 0) [] (hex 1 0x0A))
   pub case_78 :
       step_of (first_field 4 ++ camac_8 0x2D133E78 0x00A504D9 ++ camac_8 0x2EE63E33 0xFFFFFFFD ++ halt ++ jump 3)

@@ -128,7 +128,8 @@ pub record Operations : Type 0 where
 -- jumps and literals on the way to the first operation or to the end, with code 0
 pub record Ways : Type 0 where
   pub halt_alone : start_of (first_field 3 ++ halt) [] [] ≡ wants_none (state_of (ended 0 0 0 0 0 0 0 0 0x00000080 0 0 0) [] [])
-  pub jump_to_a_halt : start_of (first_field 3 ++ jump 2 ++ halt ++ halt) [] [] ≡ wants_none (state_of (ended 2 0 0 0 0 0 0 0 0x00000080 0 0 0) [] [])
+  pub jump_to_a_halt : start_of (first_field 3 ++ jump 2 ++ halt ++ halt) [] []
+      ≡ wants_none (state_of (ended 2 0 0 0 0 0 0 0 0x00000080 0 0 0) [] [])
   pub one_literal : start_of (first_field 3 ++ literal 0xA1B2C3D4 ++ halt) (hex 4 0x11121314) []
       ≡ wants_none (state_of (ended 1 0 0 0 0 4 0 0 0x00000080 0 0 0) (hex 4 0xD4C3B2A1) [])
   pub two_literals : start_of (first_field 3 ++ literal 0xA1B2C3D4 ++ literal 0xA1B2C3D4 ++ halt) (hex 8 0x1112131415161718) []

@@ -267,7 +267,7 @@ const MOST: usize = 8;
 
 // A comment with 1 + 1.
 pub fn after(m: Marks, by: usize) -> usize
-    requires { ⌜ by < 2 ^ 63 ⌝ }
+    requires { by < 2 ^ 63 }
 {
     // 3 + 4
     if !m.wide && by == LEAST {

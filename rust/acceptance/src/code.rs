@@ -98,13 +98,13 @@ mod tests {
     use super::*;
 
     const SOURCE: &str = "\
-ghost use Rattle·a·specs.specs.B.{first, second, third};
+ghost use Rattle.a.specs.B.{first, second, third};
 
 impl X {
     pub fn one(self) -> u8
-        requires second { ⌜ third self ⌝ }
-        ensures { λ r. ⌜ r ≡ first self
-            × r ≡ 0 ⌝ }
+        requires second { third self }
+        ensures { result ≡ (first self).value
+            × result ≡ 0 }
     {
         if second {
             1

@@ -22,9 +22,9 @@ const EXAMPLES: &str = "examples";
 /// The worst count; where the words behind a short block lie; both routes of decimal
 /// scalers return the row; what a queue of demands keeps; worked examples of these two.
 pub const THEOREMS: [Theorem; 6] = [
-    Theorem("worst_count", "Bound", "worst-count"),
-    Theorem("worst_count", "ShortBlocks", "short-blocks"),
-    Theorem("scalers", "BothRoutes", "both-routes"),
+    Theorem("worst_count", "Bound", "worst_count"),
+    Theorem("worst_count", "ShortBlocks", "short_blocks"),
+    Theorem("scalers", "BothRoutes", "both_routes"),
     Theorem("scalers", "Examples", EXAMPLES),
     Theorem("demands", "Kept", "kept"),
     Theorem("demands", "Examples", EXAMPLES),
@@ -43,14 +43,13 @@ fn law_path(root: &Path, law: &Law) -> PathBuf {
     proofs.join(format!("{}.antt", law.1))
 }
 
-/// The law file that a line cites: `use Rattle·CRATE.proofs.MODULE..` from another crate,
-/// `use Rattle·CRATE·proofs.proofs.MODULE..` from its own.
+/// The law file that a line cites: `use Rattle.CRATE.proofs.MODULE..`; the kit's library has
+/// its own.
 fn cited(line: &str) -> Option<Law> {
-    let name = line.strip_prefix("use Rattle·")?.split([' ', '{']).next()?;
-    let (library, path) = name.split_once('.')?;
+    let name = line.strip_prefix("use Rattle.")?.split([' ', '{']).next()?;
+    let (owner, path) = name.split_once('.')?;
     let module = path.strip_prefix("proofs.")?.trim_end_matches('.');
-    let owner = library.trim_end_matches("·proofs");
-    Some((owner.to_string(), module.to_string()))
+    (owner != "std").then(|| (owner.to_string(), module.to_string()))
 }
 
 /// The law files that the theorems' files cite, whatever lies between, and themselves.
@@ -129,16 +128,55 @@ pub struct Base {
     folder: Temporary,
 }
 
-/// Whether the theorems are proved in a folder, and the log.
-fn check(folder: &Path) -> Result<(bool, String), String> {
-    let words: Vec<&str> = ["check"].into_iter().chain(owners()).collect();
-    let output = repository::rt(folder, &words)?;
-    let log = String::from_utf8_lossy(&output.stdout).into_owned();
+/// Whether a crate is proved in a folder, and the log.
+fn check_crate(folder: &Path, name: &str) -> Result<(bool, String), String> {
+    let output = repository::rt(&folder.join("crates").join(name), &["check"])?;
+    let log = [output.stdout, output.stderr].concat();
+    let log = String::from_utf8_lossy(&log).into_owned();
     match output.status.code() {
         Some(0) => Ok((true, log)),
         Some(1) => Ok((false, log)),
         _ => Err(format!("rt could not tell\n{log}")),
     }
+}
+
+/// What is reported of a crate, with paths from the repository's root.
+fn reports_of(folder: &Path, name: &str, log: &str) -> Vec<Report> {
+    let own = folder.join("crates").join(name);
+    let mut found = verdict::reports(log, &own);
+    for report in &mut found {
+        report.file = format!("crates/{name}/{}", report.file);
+    }
+    found
+}
+
+/// Checks the crates of a folder, the lowest first, that one of these names or that stand on
+/// such a one; a crate above one that is not proved is left out. None where all are proved.
+fn check(folder: &Path, touched: &BTreeSet<&str>) -> Result<Option<Vec<Report>>, String> {
+    let (mut found, mut is_proved) = (Vec::new(), true);
+    let mut moved = touched.clone();
+    let mut lost = BTreeSet::new();
+    let crates = repository::listed(folder)?;
+    for c in &crates {
+        let stands_on =
+            |some: &BTreeSet<&str>| c.deps.iter().any(|dep| some.contains(dep.as_str()));
+        if stands_on(&lost) {
+            lost.insert(&c.name);
+        } else if moved.contains(c.name.as_str()) || stands_on(&moved) {
+            moved.insert(&c.name);
+            let (is_well, log) = check_crate(folder, &c.name)?;
+            if !is_well {
+                is_proved = false;
+                lost.insert(&c.name);
+                let own = reports_of(folder, &c.name, &log);
+                if own.is_empty() {
+                    return Err(format!("{}: the prover reports nothing\n{log}", c.name));
+                }
+                found.extend(own);
+            }
+        }
+    }
+    Ok((!is_proved).then_some(found))
 }
 
 impl Base {
@@ -147,9 +185,15 @@ impl Base {
     pub fn prove(root: &Path) -> Result<Base, String> {
         let folder = Temporary::new()?;
         build(root, folder.path())?;
-        match check(folder.path())? {
-            (true, _) => Ok(Base { folder }),
-            (false, log) => Err(format!("without an edit a theorem is not proved\n{log}")),
+        let crates = repository::listed(folder.path())?;
+        let every = crates.iter().map(|c| c.name.as_str()).collect();
+        match check(folder.path(), &every)? {
+            None => Ok(Base { folder }),
+            Some(reports) => {
+                let all: Vec<String> = reports.iter().map(Report::to_string).collect();
+                let all = all.join("\n");
+                Err(format!("without an edit a theorem is not proved\n{all}"))
+            }
         }
     }
 
@@ -158,13 +202,14 @@ impl Base {
         let copy = Temporary::new()?;
         files::copy_folder(self.folder.path(), copy.path())?;
         edit.apply(copy.path())?;
-        let (is_proved, log) = check(copy.path())?;
-        if is_proved {
-            return Ok(Verdict::NotRefused(
+        let files = edit.pairs.iter().map(|pair| pair.file.as_str());
+        let touched = files.filter_map(|file| file.split('/').nth(1)).collect();
+        match check(copy.path(), &touched)? {
+            None => Ok(Verdict::NotRefused(
                 "the theorems are still proved".to_string(),
-            ));
+            )),
+            Some(reports) => Ok(judge(&reports)),
         }
-        Ok(judge(&verdict::reports(&log, copy.path())))
     }
 }
 
@@ -181,7 +226,8 @@ fn is_in(report: &Report, owner: &str) -> bool {
 }
 
 fn is(report: &Report, theorem: &Theorem) -> bool {
-    is_in(report, theorem.0) && report.law == theorem.2
+    is_in(report, theorem.0)
+        && (report.law == theorem.2 || report.lost().any(|name| name == theorem.2))
 }
 
 /// An example that computes to something else is a fact, whatever else is refused. If there
@@ -226,23 +272,20 @@ mod tests {
     #[test]
     fn cited_law_files() {
         assert_eq!(
-            cited("use Rattle·walk.proofs.Halting.{Walk, walked}"),
+            cited("use Rattle.walk.proofs.Halting.{Walk, walked}"),
             law("walk", "Halting")
         );
         assert_eq!(
-            cited("use Rattle·worst_count·proofs.proofs.Live.{Live}"),
+            cited("use Rattle.worst_count.proofs.Live.{Live}"),
             law("worst_count", "Live")
         );
         assert_eq!(
-            cited("use Rattle·reply.proofs.Fits as fits"),
+            cited("use Rattle.reply.proofs.Fits as fits"),
             law("reply", "Fits")
         );
-        assert_eq!(cited("use Rattle·calls.specs.Fit.{fits}"), None);
-        assert_eq!(
-            cited("use Rattle·worst_count·specs.specs.Slowest.{misses}"),
-            None
-        );
-        assert_eq!(cited("use mathlib.Core.List.{List}"), None);
+        assert_eq!(cited("use Rattle.calls.specs.Fit.{fits}"), None);
+        assert_eq!(cited("use Rattle.worst_count.specs.Slowest.{misses}"), None);
+        assert_eq!(cited("use Rattle.std.proofs.Math.Option.{some}"), None);
     }
 
     #[test]
@@ -267,8 +310,8 @@ mod tests {
         let own = report("crates/worst_count/proofs/A.antt", "a", "`omega`: no");
         let theorem = report(
             "crates/worst_count/proofs/Bound.antt",
-            THEOREMS[0].2,
-            "`a` was not admitted",
+            "",
+            &format!("1 declaration that depends on `a`, which was rejected, was not checked: b, {} (via b)", THEOREMS[0].2),
         );
         let lower = report("crates/walk/proofs/B.antt", "b", "`omega`: no");
         assert!(!judge(std::slice::from_ref(&own)).is_fact());
@@ -287,7 +330,7 @@ mod tests {
             automatic: false,
         };
         let lost = report("Laws", "a", "`x` is not in scope");
-        let follows = report("BothRoutes", "both-routes", "`a` was not admitted");
+        let follows = report("BothRoutes", "both_routes", "`a` was not admitted");
         let example = report("Examples", "examples", "expected type `1 ≡ 2`");
         assert!(!judge(&[lost.clone(), follows.clone()]).is_fact());
         assert_eq!(

@@ -66,15 +66,31 @@ pub fn copy_folder(from: &Path, to: &Path) -> Result<(), String> {
     Ok(())
 }
 
+/// The same, with the files under a second name where that can be.
+pub fn link_folder(from: &Path, to: &Path) -> Result<(), String> {
+    named(to, fs::create_dir_all(to))?;
+    for path in entries(from)? {
+        let target = to.join(path.file_name().unwrap_or_default());
+        if path.is_dir() {
+            link_folder(&path, &target)?;
+        } else if fs::hard_link(&path, &target).is_err() {
+            named(&path, fs::copy(&path, &target))?;
+        }
+    }
+    Ok(())
+}
+
 /// When a file was last changed.
 pub fn changed(path: &Path) -> Result<SystemTime, String> {
     named(path, fs::metadata(path).and_then(|data| data.modified()))
 }
 
-/// When a folder, or anything in it, was last changed.
+/// When a folder, or anything in it, was last changed; what `rt` makes, in folders `out`,
+/// aside.
 pub fn newest(folder: &Path) -> Result<SystemTime, String> {
     let mut last = changed(folder)?;
-    for path in entries(folder)? {
+    let is_made = |path: &PathBuf| path.file_name().is_some_and(|name| name == "out");
+    for path in entries(folder)?.into_iter().filter(|path| !is_made(path)) {
         let time = if path.is_dir() {
             newest(&path)?
         } else {

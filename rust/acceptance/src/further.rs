@@ -14,10 +14,10 @@ use crate::verdict::Verdict;
 pub type Row = (String, Verdict);
 
 /// A crate and its edits.
-type Edits = (String, Vec<Edit>);
+pub type Edits = (String, Vec<Edit>);
 
 /// The crates that have edits, the highest first: these take longest.
-fn edits(root: &Path) -> Result<Vec<Edits>, String> {
+pub fn edits(root: &Path) -> Result<Vec<Edits>, String> {
     let folder = root.join("acceptance/code");
     let mut found = Vec::new();
     for c in repository::listed(root)?.into_iter().rev() {
@@ -49,7 +49,7 @@ fn tried(trial: &Trial, name: &str, edit: &Edit) -> Result<Verdict, String> {
         before.push((files::read(&path)?, path));
     }
     let made = edit.apply(&folder);
-    let checked = made.and_then(|_| trial.check(name));
+    let checked = made.and_then(|_| trial.check_refitted(name));
     for (text, path) in &before {
         files::write(path, text)?;
     }
@@ -57,7 +57,7 @@ fn tried(trial: &Trial, name: &str, edit: &Edit) -> Result<Verdict, String> {
 }
 
 fn try_crate(root: &Path, (name, edits): &Edits) -> Result<Vec<Row>, String> {
-    let trial = Trial::new(root)?;
+    let trial = Trial::new(root, &[name])?;
     trial.prove(name)?;
     let mut rows = Vec::new();
     for edit in edits {
@@ -68,10 +68,51 @@ fn try_crate(root: &Path, (name, edits): &Edits) -> Result<Vec<Row>, String> {
     Ok(rows)
 }
 
-/// The verdicts on all edits. Crates are taken side by side, each in a copy of its own.
-pub fn outcomes(root: &Path) -> Result<Vec<Row>, String> {
-    let crates = edits(root)?;
+/// The edits of each crate together, and only crates that have some.
+fn by_crate(edits: Vec<Edits>) -> Vec<Edits> {
+    let mut found: Vec<Edits> = Vec::new();
+    for (name, own) in edits.into_iter().filter(|(_, own)| !own.is_empty()) {
+        match found.iter_mut().find(|(other, _)| *other == name) {
+            Some((_, before)) => before.extend(own),
+            None => found.push((name, own)),
+        }
+    }
+    found
+}
+
+/// The verdicts on some edits. Crates are taken side by side, each in a copy of its own.
+pub fn tried_all(root: &Path, edits: Vec<Edits>) -> Result<Vec<Row>, String> {
+    let crates = by_crate(edits);
     let rows = jobs::side_by_side(&crates, |own| try_crate(root, own));
     let rows: Result<Vec<Vec<Row>>, String> = rows.into_iter().collect();
     Ok(rows?.into_iter().flatten().collect())
+}
+
+/// The verdicts on all edits of `acceptance/code`.
+pub fn outcomes(root: &Path) -> Result<Vec<Row>, String> {
+    tried_all(root, edits(root)?)
+}
+
+#[cfg(test)]
+mod tests {
+    use super::*;
+
+    #[test]
+    fn edits_by_their_crates() {
+        let edit = |label: &str| Edit {
+            label: label.to_string(),
+            pairs: Vec::new(),
+        };
+        let of = |name: &str, labels: &[&str]| -> Edits {
+            let own = labels.iter().map(|label| edit(label)).collect();
+            (name.to_string(), own)
+        };
+        let some = vec![
+            of("a", &["x"]),
+            of("b", &[]),
+            of("c", &["y"]),
+            of("a", &["z"]),
+        ];
+        assert_eq!(by_crate(some), [of("a", &["x", "z"]), of("c", &["y"])]);
+    }
 }

@@ -2,7 +2,7 @@
 //!
 //! A wrong engine is an edit that the prover must refuse, and for a fact: not because a
 //! proof file no longer fits the text. `crates/NAME/must-fail` has those that the papers name
-//! and some of each crate, which `rt ci` tries from nothing; `acceptance/code` has the others,
+//! and some of each crate, which `rt ci` tries; `acceptance/code` has the others,
 //! of one crate each, tried over what is proved. `acceptance/definitions` has those of the
 //! definitions that the theorems of the crates `worst_count`, `scalers` and `demands` are
 //! about; they are tried where there is no code, so that only these, and the laws that they

@@ -38,17 +38,22 @@ pub struct Page {
     pub rules: Vec<Rule>,
 }
 
+/// The library of the kit that every crate uses; it has no pages here.
+const KIT: &str = "std";
+
 /// The names that the `use` lines of a file bring in, each with its `path:name`.
 pub fn brought_in(text: &str) -> BTreeMap<String, String> {
     let mut found = BTreeMap::new();
     for line in text.lines() {
         let line = line.trim_start_matches("ghost ").trim_end_matches(';');
-        let used = line.strip_prefix("use Rattle·");
+        let used = line.strip_prefix("use Rattle.");
         let Some((path, names)) = used.and_then(|rest| rest.split_once(".{")) else {
             continue;
         };
         let (library, page) = path.split_once('.').unwrap_or((path, ""));
-        let library = library.split('·').next().unwrap_or_default();
+        if library == KIT {
+            continue;
+        }
         let page = page.replace('.', "/");
         for name in names.trim_end_matches('}').split(", ") {
             let (name, here) = name.split_once(" as ").unwrap_or((name, name));
@@ -58,9 +63,10 @@ pub fn brought_in(text: &str) -> BTreeMap<String, String> {
     found
 }
 
-/// The names in a text of definitions; one that a `=` or `:` follows is bound there.
+/// The names in a text of definitions; one that a `=` or `:` follows is bound there. Of
+/// `x.run.spot` that is `x`.
 pub fn names_in(text: &str) -> impl Iterator<Item = &str> {
-    let is_between = |c: char| c.is_whitespace() || "(){}[],;|⌜⌝".contains(c);
+    let is_between = |c: char| c.is_whitespace() || "(){}[],;|".contains(c);
     let words: Vec<&str> = text.split(is_between).filter(|w| !w.is_empty()).collect();
     let next = words.clone().into_iter().skip(1).chain([""]);
     let pairs: Vec<(&str, &str)> = words.into_iter().zip(next).collect();
@@ -68,7 +74,7 @@ pub fn names_in(text: &str) -> impl Iterator<Item = &str> {
     pairs
         .into_iter()
         .filter(move |pair| !is_bound(pair.1))
-        .map(|pair| pair.0)
+        .map(|pair| pair.0.split('.').next().unwrap_or_default())
 }
 
 /// What a line declares: at its beginning in the first column, or as a field.
@@ -271,8 +277,8 @@ mod tests {
 
     const PAGE: &str = "\
 -- The head (document 01). More.
-use Rattle·base.specs.Checks.{if_then_else_, bit}
-use Rattle·camac·specs.specs.declared.words.Address.{Address}
+use Rattle.base.specs.Checks.{if◌then◌else◌, bit}
+use Rattle.camac.specs.declared.words.Address.{Address}
 
 -- Part -----
 
@@ -288,10 +294,22 @@ pub record Kept (q : ℕ) : Type 0 where
   -- \"three\"
   pub left : first q ≡ true
   pub right :
-      second ≡ record { first = 1; bit = 2 }
+      second ≡ record { first = 1; bit = 2 }.bit
   -- more
   pub last : ℕ
 ";
+
+    #[test]
+    fn names_brought_in() {
+        let text = "use Rattle.std.specs.Prelude.{ℕ}\nghost use Rattle.a.specs.model.B.{one, two as other};\n";
+        let found: Vec<(String, String)> = brought_in(text).into_iter().collect();
+        let pair = |a: &str, b: &str| (a.to_string(), b.to_string());
+        let wanted = [
+            pair("one", "a/specs/model/B:one"),
+            pair("other", "a/specs/model/B:two"),
+        ];
+        assert_eq!(found, wanted);
+    }
 
     #[test]
     fn rules_of_a_page() {

@@ -18,7 +18,7 @@ fn quoted(line: &str) -> impl Iterator<Item = &str> {
 
 /// A path by its looks: names joined by `/`, the first of more than a letter.
 fn is_path(text: &str) -> bool {
-    let is_of_names = |c: char| c.is_alphanumeric() || "_-.*/·+".contains(c);
+    let is_of_names = |c: char| c.is_alphanumeric() || "_-.*/+".contains(c);
     let first = text.split('/').next().unwrap_or_default();
     text.contains('/')
         && !text.contains("..")
@@ -28,7 +28,8 @@ fn is_path(text: &str) -> bool {
 
 /// What rt and cargo make is not of the repository.
 fn is_made(path: &str) -> bool {
-    path.split('/').any(|part| part == "target")
+    path.split('/')
+        .any(|part| part == "target" || part == "out")
 }
 
 /// `*` and words in capitals stand for any name.
@@ -209,14 +210,14 @@ mod tests {
     fn declarations_of_antt() {
         let declared = [
             ("unfoldable pub worst_words : ℕ → ℕ", "worst_words"),
-            ("abbrev pub _sets_ : Bool → ℕ → StatusBit", "_sets_"),
+            ("abbrev pub ◌sets◌ : Bool → ℕ → StatusBit", "◌sets◌"),
             ("pub record Plan : Type 0 where", "Plan"),
             (
                 "pub data Calls (list : List ℕ) : State → Type 0 where",
                 "Calls",
             ),
-            ("pub within : length replies ≤ c .worst", "within"),
-            ("no-call : {s : State} → Calls list s [] s", "no-call"),
+            ("pub within : length replies ≤ c.worst", "within"),
+            ("no_call : {s : State} → Calls list s [] s", "no_call"),
         ];
         for (line, name) in declared {
             assert!(antt_declares(line, name), "{name}");
@@ -226,7 +227,10 @@ mod tests {
             "worst_words"
         ));
         assert!(!antt_declares("-- worst_words : a comment", "worst_words"));
-        assert!(!antt_declares("use walk.Worst.{worst_words}", "worst_words"));
+        assert!(!antt_declares(
+            "use walk.Worst.{worst_words}",
+            "worst_words"
+        ));
     }
 
     #[test]

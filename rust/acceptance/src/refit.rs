@@ -1,38 +1,42 @@
-//! A proof file made to fit code of which one operator was changed. The needs of such code
-//! are those of the code before, in the same order; some have another name, as `add-result`
-//! and `sub-result`. The proof's text stays, and the names of the needs are put into it.
+//! A proof file made to fit code of which one operator was changed. The goals of such code
+//! are those of the code before, in the same order; some have another name, as
+//! `overflow_add-result` and `overflow_sub-result`. The proof's text stays, and the names of
+//! the goals are put into it.
 
-/// The needs of a function, in their order, as its generated module `Tie` declares them.
-pub fn needs(tie: &str) -> Vec<String> {
-    let need = |line: &str| {
-        let name = line.strip_prefix("abbrev pub Need-")?.split(" :").next()?;
-        Some(name.to_string())
+/// The goals of a function, in their order, as its generated module `Goals` declares them.
+pub fn goals(text: &str) -> Vec<String> {
+    let goal = |line: &str| {
+        let name = line.strip_prefix("abbrev pub the-fitted-")?;
+        Some(name.split(" :").next()?.to_string())
     };
-    tie.lines().filter_map(need).collect()
+    text.lines().filter_map(goal).collect()
 }
 
-/// The letters of names: what may not follow a name that is replaced.
+/// The letters of names: what a name ends before.
 fn is_of_name(c: char) -> bool {
     c.is_alphanumeric() || "-_'".contains(c)
 }
 
-/// A proof with the needs' new names in place of the old ones; none where no need has
+/// A proof with the goals' new names in place of the old ones; none where no goal has
 /// another name, or where their number changed.
 pub fn refitted(proof: &str, old: &[String], new: &[String]) -> Option<String> {
     if old.len() != new.len() || old == new {
         return None;
     }
-    const HEAD: &str = "tie.Need-";
-    let mut parts = proof.split(HEAD);
-    let mut text = parts.next()?.to_string();
-    for part in parts {
-        let end = part.find(|c| !is_of_name(c)).unwrap_or(part.len());
-        let (name, rest) = part.split_at(end);
-        let place = old.iter().position(|need| need == name);
-        let name = place.map_or(name, |place| new[place].as_str());
-        text += &[HEAD, name, rest].concat();
+    let mut text = String::new();
+    let mut rest = proof;
+    while let Some(first) = rest.chars().next() {
+        let end = if is_of_name(first) {
+            rest.find(|c| !is_of_name(c)).unwrap_or(rest.len())
+        } else {
+            first.len_utf8()
+        };
+        let (word, behind) = rest.split_at(end);
+        let place = old.iter().position(|goal| goal == word);
+        text += place.map_or(word, |place| new[place].as_str());
+        rest = behind;
     }
-    Some(text)
+    (text != proof).then_some(text)
 }
 
 #[cfg(test)]
@@ -44,21 +48,20 @@ mod tests {
     }
 
     #[test]
-    fn needs_in_order() {
-        let tie = "abbrev pub Need-add-x : Type 0\nNeed-add-x = Lts.Need-add-x (\n\nabbrev pub Need-returns : Type 0\n";
-        assert_eq!(needs(tie), names("add-x returns"));
+    fn goals_in_order() {
+        let text = "abbrev pub overflow_add-x : Type 0\nabbrev pub the-fitted-overflow_add-x : Type 0\nthe-fitted-overflow_add-x = Lts.Need-add-x (\n\nabbrev pub the-fitted-returns : Type 0\n";
+        assert_eq!(goals(text), names("overflow_add-x returns"));
     }
 
     #[test]
-    fn names_of_needs_replaced() {
-        let proof =
-            "a : tie.Need-add-x\na c = search needs\n\nb : tie.Need-add-x-2\nb c = search needs\n";
+    fn names_of_goals_replaced() {
+        let proof = "pub add-x : goal.add-x\nadd-x c = search rules\n\npub add-x-2 : goal.add-x-2\nadd-x-2 c = c.add.x\n";
         let old = names("add-x add-x-2 returns");
         let new = names("sub-x add-x returns");
-        let expected =
-            "a : tie.Need-sub-x\na c = search needs\n\nb : tie.Need-add-x\nb c = search needs\n";
+        let expected = "pub sub-x : goal.sub-x\nsub-x c = search rules\n\npub add-x : goal.add-x\nadd-x c = c.add.x\n";
         assert_eq!(refitted(proof, &old, &new).as_deref(), Some(expected));
         assert_eq!(refitted(proof, &old, &old), None);
         assert_eq!(refitted(proof, &old, &names("sub-x returns")), None);
+        assert_eq!(refitted("pub returns : x\n", &old, &new), None);
     }
 }

@@ -11,9 +11,11 @@ pub fn root() -> PathBuf {
     here.join("../..").canonicalize().expect("a root")
 }
 
-/// A line of crates.txt: `NAME: DEP DEP ..`.
+/// A line of crates.txt: `NAME: DEP DEP ..`; behind the name may stand what it is, as
+/// `staticlib`.
 #[derive(Clone, Debug, PartialEq, Eq)]
 pub struct Listed {
+    pub line: String,
     pub name: String,
     pub deps: Vec<String>,
 }
@@ -22,7 +24,8 @@ fn listed_in(line: &str) -> Option<Listed> {
     let line = line.split('#').next().unwrap_or_default();
     let (name, deps) = line.split_once(':')?;
     Some(Listed {
-        name: name.trim().to_string(),
+        line: line.trim().to_string(),
+        name: name.split_whitespace().next()?.to_string(),
         deps: deps.split_whitespace().map(str::to_string).collect(),
     })
 }
@@ -64,7 +67,7 @@ mod tests {
 
     #[test]
     fn the_crates_that_some_reach() {
-        let text = "a:\nb: a # first\n\nc: a io\nd: b\n";
+        let text = "a:\nb: a # first\n\nc staticlib: a io\nd: b\n";
         let all: Vec<Listed> = text.lines().filter_map(listed_in).collect();
         let names = |tops| -> Vec<String> {
             let found = reached(&all, tops);
@@ -73,5 +76,6 @@ mod tests {
         assert_eq!(names(&["d"]), ["a", "b", "d"]);
         assert_eq!(names(&["b", "c"]), ["a", "b", "c"]);
         assert_eq!(all[2].deps, ["a", "io"]);
+        assert_eq!(all[2].line, "c staticlib: a io");
     }
 }

@@ -351,10 +351,10 @@ pub record Sums : Type 0 where
 ";
 
     const CODE: &str = "\
-ghost use Rattle·a·specs.specs.P.{second};
+ghost use Rattle.a.specs.P.{second};
 
 fn two() -> u8
-    ensures { λ r. ⌜ r ≡ second ⌝ }
+    ensures { result ≡ second }
 {
     1
 }

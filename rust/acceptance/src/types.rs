@@ -13,6 +13,11 @@ fn is_above(line: &str) -> bool {
     line.starts_with("//") || line.starts_with("#[")
 }
 
+/// What holds for the whole file, as `#![tactic(auto)]`.
+fn is_of_file(line: &str) -> bool {
+    line.starts_with("#![")
+}
+
 fn starts_in_first_column(line: &str) -> bool {
     !line.is_empty() && !line.starts_with(char::is_whitespace)
 }
@@ -26,7 +31,9 @@ fn items(text: &str) -> Vec<Item<'_>> {
     let mut above = Vec::new();
     let mut lines = Vec::new();
     for line in text.lines() {
-        if lines.is_empty() && is_above(line) {
+        if is_of_file(line) {
+            above.clear();
+        } else if lines.is_empty() && is_above(line) {
             above.push(line);
         } else if lines.is_empty() && line.is_empty() {
             above.clear();
@@ -57,16 +64,16 @@ fn is_type(item: &Item) -> bool {
     matches!(keyword(item), "struct" | "enum" | "type")
 }
 
-/// A `use` line cut to the names that the types mention; none where they mention none.
-fn needed_use(line: &str, types: &str) -> Option<String> {
+/// A `use` line cut to some of its names; none where it has none of them.
+fn cut_use(line: &str, is_kept: impl Fn(&str) -> bool) -> Option<String> {
     let (path, names) = line.trim_end_matches(';').rsplit_once("::")?;
-    let needed: Vec<&str> = names
+    let kept: Vec<&str> = names
         .trim_matches(['{', '}'])
         .split(',')
         .map(str::trim)
-        .filter(|name| words(types).any(|word| Some(word) == words(name).last()))
+        .filter(|name| words(name).last().is_some_and(&is_kept))
         .collect();
-    match needed.as_slice() {
+    match kept.as_slice() {
         [] => None,
         [name] => Some(format!("{path}::{name};")),
         several => Some(format!("{path}::{{{}}};", several.join(", "))),
@@ -78,10 +85,16 @@ fn is_type_name(name: &str) -> bool {
     name.starts_with(char::is_uppercase) && name.contains(char::is_lowercase)
 }
 
-/// Whether a line hands a type of a module on.
-fn hands_on(line: &str) -> bool {
-    let name = words(line).last().unwrap_or_default();
-    line.starts_with("pub use ") && is_type_name(name)
+/// A `use` item cut to what it hands on or brings in: to the types that a module hands on, or
+/// to the names that the types mention.
+fn needed_use(item: &Item, types: &str) -> Option<String> {
+    let line = item.lines.iter().map(|line| line.trim());
+    let line = line.collect::<Vec<_>>().join(" ");
+    if line.starts_with("pub use ") {
+        cut_use(&line, is_type_name)
+    } else {
+        cut_use(&line, |name| words(types).any(|word| word == name))
+    }
 }
 
 /// The types of a source file with their comments, the `use` lines that they need or that
@@ -99,12 +112,19 @@ pub fn of(text: &str) -> String {
     for item in &all {
         match keyword(item) {
             "mod" => heads.push(item.lines.join("\n")),
-            "use" if hands_on(item.lines[0]) => heads.push(item.lines.join("\n")),
-            "use" => heads.extend(needed_use(&item.lines.join(" "), &types)),
+            "use" => heads.extend(needed_use(item, &types)),
             _ => {}
         }
     }
-    format!("// The types alone.\n{}\n\n{types}\n", heads.join("\n"))
+    let of_file: String = text
+        .lines()
+        .filter(|line| is_of_file(line))
+        .map(|line| format!("{line}\n"))
+        .collect();
+    format!(
+        "// The types alone.\n{of_file}{}\n\n{types}\n",
+        heads.join("\n")
+    )
 }
 
 #[cfg(test)]
@@ -113,17 +133,23 @@ mod tests {
 
     const HEADS: &str = "\
 // The head.
-ghost use a.B.{c};
+#![tactic(auto)]
+
+ghost use Rattle.a.specs.B.{c};
 use camac::Command;
 use camac::{Decoded, less};
 mod parts;
 pub use parts::Part;
 pub use parts::part_of;
+pub use words::{
+    Address, Q_BIT, address_of,
+    Word,
+};
 ";
 
     const TYPES: &str = "\
 // A refusal.
-#[repr(C)]
+#[derive(Clone, Copy)]
 pub struct Refusal {
     pub number: u8,
 }
@@ -151,7 +177,7 @@ impl Refusal {
 pub fn refused(
     number: u8,
 ) -> Refusal
-    ensures { λ r. ⌜ r .number ≡ number ⌝ }
+    ensures { result.number ≡ number }
 {
     Refusal { number: number }
 }
@@ -159,10 +185,12 @@ pub fn refused(
 
     const HEADS_ALONE: &str = "\
 // The types alone.
+#![tactic(auto)]
 use camac::Command;
 use camac::Decoded;
 mod parts;
 pub use parts::Part;
+pub use words::{Address, Word};
 ";
 
     #[test]

@@ -1,8 +1,8 @@
 //! A fact refuses each wrong engine, not a proof that no longer fits its text: the must-fail
-//! edits by the logs that `rt ci` or `rt must-fail` left, without a second proving; those of
-//! `acceptance/code` by a check over what is proved. Where the must-fail edits were not tried
-//! since crates/ last changed, the test says so and leaves both out; the gate sets
-//! ALL_EDITS, and then it fails.
+//! edits by what `rt ci` or `rt must-fail` said of them, kept in target/edits.log, and where
+//! that does not show the fact, as those of `acceptance/code`, by a check over what is proved.
+//! Where the must-fail edits were not tried since crates/ last changed, the test says so and
+//! leaves both out. The gate sets ALL_EDITS to 1, and then it fails; with 0 both are left out.
 
 use std::process::ExitCode;
 
@@ -22,16 +22,19 @@ fn tally() -> Result<Option<(usize, usize)>, String> {
     if !must_fail::are_tried(&root)? {
         return Ok(None);
     }
-    let mut rows = must_fail::verdicts(&root)?;
-    rows.extend(further::outcomes(&root)?);
+    let (mut rows, open) = must_fail::judged(&root)?;
+    let edits = [open, further::edits(&root)?].concat();
+    rows.extend(further::tried_all(&root, edits)?);
     let facts = rows.iter().filter(|(label, v)| print(label, v)).count();
     Ok(Some((facts, rows.len() - facts)))
 }
 
 fn main() -> ExitCode {
     const WITHOUT: &str = "not every must-fail edit was tried since crates/ last changed";
-    let is_gate = std::env::var_os("ALL_EDITS").is_some();
-    let (passed, failed) = match tally() {
+    let wanted = std::env::var("ALL_EDITS").unwrap_or_default();
+    let is_gate = wanted == "1";
+    let counts = if wanted == "0" { Ok(None) } else { tally() };
+    let (passed, failed) = match counts {
         Ok(Some(counts)) => counts,
         Ok(None) if !is_gate => {
             println!("LEFT OUT: the wrong engines; {WITHOUT}: run `rt ci` or `rt must-fail` first");

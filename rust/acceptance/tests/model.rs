@@ -6,7 +6,8 @@ use acceptance::{files, repository};
 /// Whether a line of an antt file uses a module of `specs/model` or of `proofs`.
 fn uses_model_or_proof(line: &str) -> bool {
     let path = line
-        .strip_prefix("use Rattle·")
+        .strip_prefix("use Rattle.")
+        .filter(|rest| !rest.starts_with("std."))
         .map(|rest| rest.split([' ', '{']).next().unwrap_or_default());
     path.is_some_and(|path| {
         path.split('.')
@@ -36,16 +37,16 @@ fn definitions_rest_on_definitions() {
 #[test]
 fn such_lines_are_seen() {
     for line in [
-        "use Rattle·walk.specs.model.Sums.{rest_from}",
-        "use Rattle·step·specs.specs.model.Place.{Alive}",
-        "use Rattle·walk.proofs.Rest.{OnWalk}",
+        "use Rattle.walk.specs.model.Sums.{rest_from}",
+        "use Rattle.step.specs.model.Place.{Alive}",
+        "use Rattle.walk.proofs.Rest.{OnWalk}",
     ] {
         assert!(uses_model_or_proof(line), "{line}");
     }
     for line in [
-        "use Rattle·walk.specs.Walk.{Visit}",
-        "use Rattle·walk·specs.specs.declared.visits.Spot.{Spot}",
-        "use mathlib.Core.Path.{_≡_}",
+        "use Rattle.walk.specs.Walk.{Visit}",
+        "use Rattle.walk.specs.declared.visits.Spot.{Spot}",
+        "use Rattle.std.proofs.Math.Option.{Option}",
     ] {
         assert!(!uses_model_or_proof(line), "{line}");
     }

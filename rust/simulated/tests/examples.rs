@@ -27,7 +27,7 @@ fn explained(folder: &Path) -> String {
         None => repository("target/bin/explain"),
     };
     let Ok(program) = program.canonicalize() else {
-        panic!("explain is missing: run `rt check explain` in the repository's root");
+        panic!("explain is missing: run `tools/build explain` in the repository's root");
     };
     let output = Command::new(program).current_dir(folder).output();
     let output = output.expect("explain runs");

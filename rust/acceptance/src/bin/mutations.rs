@@ -63,14 +63,16 @@ fn run() -> Result<(), String> {
         .iter()
         .filter(|w| w.parse::<usize>().is_err())
         .collect();
-    let trial = Trial::new(&root)?;
     let structs = mutations::structs(&root)?;
     let mut rows = Vec::new();
     for c in repository::listed(&root)? {
+        if !names.is_empty() && !names.contains(&&c.name) {
+            continue;
+        }
+        let trial = Trial::new(&root, &[&c.name])?;
         let folder = trial.crate_folder(&c.name);
         let changes = mutations::changes(&folder, &structs, most.unwrap_or(usize::MAX))?;
-        let is_chosen = names.is_empty() || names.contains(&&c.name);
-        if is_chosen && !changes.is_empty() {
+        if !changes.is_empty() {
             rows.push(try_crate(&Subject::new(&trial, &c.name)?, changes)?);
         }
     }

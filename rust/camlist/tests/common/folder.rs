@@ -12,7 +12,7 @@ pub fn program(variable: &str, name: &str) -> PathBuf {
     match program.canonicalize() {
         Ok(program) => program,
         Err(_) => panic!(
-            "{place} is missing: run `rt check {name}` in the repository's root, or set {variable}"
+            "{place} is missing: run `tools/build {name}` in the repository's root, or set {variable}"
         ),
     }
 }

@@ -76,11 +76,11 @@ fn one_field(bytes: &[u8]) -> Option<(String, &[u8])> {
             Some((format!("first_field {}", short([a, b])), rest))
         }
         [0x10, 4, 0, a, b, c, d, ref rest @ ..] => {
-            Some((format!("camac-4 {}", word([a, b, c, d])), rest))
+            Some((format!("camac_4 {}", word([a, b, c, d])), rest))
         }
         [0x10, 8, 0, a, b, c, d, e, f, g, h, ref rest @ ..] => {
             let (first, second) = (word([a, b, c, d]), word([e, f, g, h]));
-            Some((format!("camac-8 {first} {second}"), rest))
+            Some((format!("camac_8 {first} {second}"), rest))
         }
         [0x20, 2, 0, a, b, ref rest @ ..] => Some((format!("jump {}", short([a, b])), rest)),
         [0x21, 4, 0, a, b, c, d, ref rest @ ..] => {

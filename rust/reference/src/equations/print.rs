@@ -50,20 +50,30 @@ fn statements(module: &Module) -> String {
 }
 
 /// What statements name, by the module that has it.
-const KNOWN: [(&str, &[&str]); 11] = [
-    ("Prim.Native.Nat", &["ℕ", "_+_"]),
-    ("mathlib.Core.Path", &["_≡_"]),
-    ("mathlib.Core.Bool", &["true", "false"]),
-    ("mathlib.Core.List", &["List", "[]", "_∷_", "_++_"]),
+const KNOWN: [(&str, &[&str]); 8] = [
     (
-        "Rattle·listfile.specs.Fields",
+        "Rattle.std.specs.Prelude",
+        &[
+            "ℕ",
+            "◌+◌",
+            "◌≡◌",
+            "true",
+            "false",
+            "List",
+            "[]",
+            "◌∷◌",
+            "◌++◌",
+        ],
+    ),
+    (
+        "Rattle.listfile.specs.Fields",
         &["fields_from", "fields", "faulty"],
     ),
-    ("Rattle·walk.specs.Admission", &["admit_of"]),
-    ("Rattle·reply.specs.Effect", &["state_of"]),
-    ("Rattle·reply.specs.declared.records.Record", &["Record"]),
+    ("Rattle.walk.specs.Admission", &["admit_of"]),
+    ("Rattle.reply.specs.Effect", &["state_of"]),
+    ("Rattle.reply.specs.declared.records.Record", &["Record"]),
     (
-        "Rattle·calls.specs.Calls",
+        "Rattle.calls.specs.Calls",
         &[
             "Called",
             "start_of",
@@ -75,15 +85,15 @@ const KNOWN: [(&str, &[&str]); 11] = [
         ],
     ),
     (
-        "Rattle·worst_count.specs.Cases",
+        "Rattle.worst_count.specs.Cases",
         &["first_field", "jump", "literal", "halt"],
     ),
     (
-        "Rattle·equations·specs.specs.Forms",
+        "Rattle.equations.specs.Forms",
         &[
             "hex",
-            "camac-4",
-            "camac-8",
+            "camac_4",
+            "camac_8",
             "Q",
             "X",
             "ERR",
@@ -109,16 +119,24 @@ const KNOWN: [(&str, &[&str]); 11] = [
     ),
 ];
 
+/// A name of an equation or a group as it is printed: `tag-2F` is `tag_2f`.
+pub fn printed_name(name: &str) -> String {
+    name.replace('-', "_").to_lowercase()
+}
+
 /// Whether statements name something so, which no equation may be called.
 pub fn is_known(name: &str) -> bool {
-    KNOWN.iter().any(|(_, names)| names.contains(&name))
+    let name = printed_name(name);
+    KNOWN
+        .iter()
+        .any(|(_, names)| names.contains(&name.as_str()))
 }
 
 /// The `use` lines of what a text names.
 fn uses(body: &str) -> String {
     let lines = body.lines().filter(|line| !line.starts_with("--"));
     let words: BTreeSet<&str> = lines.flat_map(|line| line.split([' ', '(', ')'])).collect();
-    let is_named = |name: &&&str| words.contains(name.trim_matches('_'));
+    let is_named = |name: &&&str| words.contains(name.trim_matches('◌'));
     let mut lines = String::new();
     for (module, names) in KNOWN {
         let named: Vec<&str> = names.iter().filter(is_named).copied().collect();
@@ -220,7 +238,7 @@ impl Shared<'_> {
         };
         let known = self.named.iter().position(|call| *call == part.call);
         let number = known.unwrap_or(self.named.len());
-        let name = format!("{}-{number}", self.group.name);
+        let name = format!("{}_{number}", printed_name(&self.group.name));
         if known.is_none() {
             self.definitions.push(definition(&name, &part));
             self.named.push(part.call);
@@ -241,7 +259,7 @@ fn definition(name: &str, part: &Part) -> String {
     format!("abbrev pub {name} : {its_type} → {answer}\n{line}\n\n")
 }
 
-/// `one_word` as `OneWord`.
+/// `one-word` as `OneWord`.
 fn type_name(name: &str) -> String {
     let capital = |word: &str| word[..1].to_uppercase() + &word[1..];
     name.split('-').map(capital).collect()
@@ -249,6 +267,7 @@ fn type_name(name: &str) -> String {
 
 /// One equation, on as few lines as it takes.
 fn field(name: &str, (call, answer): &(Vec<String>, String)) -> String {
+    let name = printed_name(name);
     let whole = call.join(" ");
     let fits = |line: &str| line.chars().count() <= WIDTH;
     let line = format!("  pub {name} : {whole} ≡ {answer}\n");
@@ -269,7 +288,7 @@ fn field(name: &str, (call, answer): &(Vec<String>, String)) -> String {
 /// The file of the proofs.
 fn proofs(module: &Module) -> String {
     let types: Vec<String> = module.groups.iter().map(|g| type_name(&g.name)).collect();
-    let specs = format!("Rattle·equations·specs.specs.{}", module.name);
+    let specs = format!("Rattle.equations.specs.{}", module.name);
     let uses = types
         .chunks(NAMES)
         .map(|names| format!("use {specs}.{{{}}}\n", names.join(", ")));
@@ -277,7 +296,7 @@ fn proofs(module: &Module) -> String {
     format!(
         "-- The equations of specs/{} hold: both sides of each compute to the same.\n\
          -- Printed: {COMMAND}\n\
-         use mathlib.Core.Path.{{refl}}\nuse Rattle·worst_count.proofs.Cases.{{opened}}\n{}\n{}",
+         use mathlib.Core.Path.{{refl}}\nuse Rattle.worst_count.proofs.Cases.{{opened}}\n{}\n{}",
         module.name,
         uses.collect::<String>(),
         values.join("\n")
@@ -285,12 +304,12 @@ fn proofs(module: &Module) -> String {
 }
 
 fn value(group: &Group) -> String {
-    let name = &group.name;
-    let line = |equation: &Equation| format!("  {} = refl;\n", equation.name);
+    let name = printed_name(&group.name);
+    let line = |equation: &Equation| format!("  {} = refl;\n", printed_name(&equation.name));
     let fields: String = group.equations.iter().map(line).collect();
     format!(
         "pub {name} : {}\nunfolding opened\n{name} = record {{\n{fields}}}\n",
-        type_name(name)
+        type_name(&group.name)
     )
 }
 

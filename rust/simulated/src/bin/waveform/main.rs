@@ -36,7 +36,7 @@ fn run() -> Result<(), Box<dyn std::error::Error>> {
 
 #[cfg(not(library))]
 fn run() -> Result<(), Box<dyn std::error::Error>> {
-    Err("built without the engine: run `rt staticlib host` in the repository's root".into())
+    Err("built without the engine: run `tools/build host` in the repository's root".into())
 }
 
 fn main() -> ExitCode {
