@@ -56,10 +56,10 @@ module _ (word : ℕ) where
 
   -- Words ----------------------------------------------------------------------------------------------------------------
 
-  abbrev wordTest : QMode → Bool → ℕ → Bool
-  wordTest q ad f = if eqb (bit_and f (word_flags q ad)) (word_flags q ad % 4) then done q (answer_by f word) && fine q ad f else true
+  abbrev word_test : QMode → Bool → ℕ → Bool
+  word_test q ad f = if eqb (bit_and f (word_flags q ad)) (word_flags q ad % 4) then done q (answer_by f word) && fine q ad f else true
 
-  all_words : (q : QMode) (ad : Bool) → all_below 64 (wordTest q ad) ≡ true
+  all_words : (q : QMode) (ad : Bool) → all_below 64 (word_test q ad) ≡ true
   unfolding all_below
   all_words Stop true = refl
   all_words Stop false = refl
@@ -73,17 +73,17 @@ module _ (word : ℕ) where
   pub flags_word : (q : QMode) (ad : Bool) (f : ℕ) → f < 64 → eqb (bit_and f (word_flags q ad)) (word_flags q ad % 4) ≡ true
       → Fine q ad f × (done q (answer_by f word) ≡ true)
   flags_word q ad f h e =
-      let all = under _ (done q (answer_by f word) && fine q ad f) e (tried 64 (wordTest q ad) (all_words q ad) f h) in
+      let all = under _ (done q (answer_by f word) && fine q ad f) e (tried 64 (word_test q ad) (all_words q ad) f h) in
       (fine_all q ad f (and_right (done q (answer_by f word)) _ all), and_left _ _ all)
 
   -- Waits ----------------------------------------------------------------------------------------------------------------
 
-  abbrev waitTest : QMode → Bool → ℕ → Bool
-  waitTest q ad f =
+  abbrev wait_test : QMode → Bool → ℕ → Bool
+  wait_test q ad f =
       if not (eqb (bit_and f (word_flags q ad)) (word_flags q ad % 4)) && eqb (bit_and f (wait_flags q ad)) (wait_flags q ad % 4)
       then not (done q (answer_by f word)) && fine q ad f else true
 
-  all_waits : (q : QMode) (ad : Bool) (limit tries position : ℕ) → can_wait q limit tries position ≡ true → all_below 64 (waitTest q ad) ≡ true
+  all_waits : (q : QMode) (ad : Bool) (limit tries position : ℕ) → can_wait q limit tries position ≡ true → all_below 64 (wait_test q ad) ≡ true
   unfolding all_below
   all_waits Stop ad limit tries position c = absurd (false≢true c)
   all_waits Ignore ad limit tries position c = absurd (false≢true c)
@@ -99,5 +99,5 @@ module _ (word : ℕ) where
       let all = under
       (not (eqb (bit_and f (word_flags q ad)) (word_flags q ad % 4)) && eqb (bit_and f (wait_flags q ad)) (wait_flags q ad % 4))
       (not (done q (answer_by f word)) && fine q ad f) (rw (e, g))
-      (tried 64 (waitTest q ad) (all_waits q ad limit tries position c) f h) in
+      (tried 64 (wait_test q ad) (all_waits q ad limit tries position c) f h) in
       (fine_all q ad f (and_right (not (done q (answer_by f word))) _ all), not-true _ (and_left _ _ all))

@@ -8,15 +8,15 @@ use Rattle.camac.specs.Names.{names, filled, name_of}
 use Rattle.camac.proofs.names.error_name.Goals as goal
 
 -- inside a list the value for a place past its end is not asked for
-getD-within : {A : Type 0} (l : List A) (i : ℕ) (d e : A) → i < length l → get_or l i d ≡ get_or l i e
-getD-within [] i d e h = absurd (omega arith)
-getD-within (x ∷ xs) zero d e h = refl
-getD-within (x ∷ xs) (suc i) d e h = getD-within xs i d e (omega arith)
+get_or_within : {A : Type 0} (l : List A) (i : ℕ) (d e : A) → i < length l → get_or l i d ≡ get_or l i e
+get_or_within [] i d e h = absurd (omega arith)
+get_or_within (x ∷ xs) zero d e h = refl
+get_or_within (x ∷ xs) (suc i) d e h = get_or_within xs i d e (omega arith)
 
 pub returns-then-code-lt16 : goal.returns-then-code-lt16
 unfolding names filled name_of
 returns-then-code-lt16 c =
-    getD-within (map (filled 16) names) _ _ (filled 16 "") c.if-code-lt16.true
+    get_or_within (map (filled 16) names) _ _ (filled 16 "") c.if-code-lt16.true
     ∙ get_or-map (filled 16) names c.args.code ""
 
 pub returns : goal.returns
