@@ -49,6 +49,7 @@ impl ScanPosition {
     }
 
     // After a done word. That a scan ends: specs/Ends.
+    #[tactic(auto, unfolding(crate::specs::Scan::after_done))]
     pub fn after_done(self) -> Moved
         ensures { result ≡ after_done self }
     {

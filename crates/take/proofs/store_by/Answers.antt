@@ -1,4 +1,5 @@
 -- `store_by` is `moved_bytes`, by the direction: only a read stores, and `incoming_after` is then the mark behind its word.
+use borrow.Author.Rules.{rules}
 use mathlib.Core.Path.{◌∙◌}
 use Rattle.take.proofs.HereCases.{room_incoming, stored_incoming, stored_outgoing, stored_neither}
 use Rattle.take.proofs.store_by.Goals as goal
@@ -7,7 +8,7 @@ pub store-requires : goal.store-requires
 store-requires c =
     room_incoming _ _
     c.direction_of-d.ensures
-    _ _ c.in-Incoming.is
+    _ _ (search rules)
     c.requires
 
 pub returns-in-Incoming : goal.returns-in-Incoming

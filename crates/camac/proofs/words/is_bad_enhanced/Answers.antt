@@ -10,18 +10,6 @@ returns-then-is_sequencer c = rw (← c.is_sequencer.ensures, c.if-is_sequencer.
 pub returns-then-is_control : goal.returns-then-is_control
 returns-then-is_control c = rw (← c.is_sequencer.ensures, c.if-is_sequencer.false, ← c.address_in-a.ensures, ← c.is_control.ensures, c.if-is_control.true)
 
-pub returns-then-first-eq2 : goal.returns-then-first-eq2
-returns-then-first-eq2 c =
-    rw (
-      ← c.is_sequencer.ensures,
-      c.if-is_sequencer.false,
-      ← c.address_in-a.ensures,
-      ← c.is_write.ensures,
-      ← c.is_control.ensures,
-      c.if-is_control.false,
-      eq-eqb (qmode_bits c.args.first) 2 (omega (arith, c.if-first-eq2.true)),
-    )
-
 pub returns : goal.returns
 returns c =
     rw (
@@ -30,5 +18,5 @@ returns c =
       ← c.address_in-a.ensures,
       ← c.is_control.ensures,
       c.if-is_control.false,
-      ne_eqb (qmode_bits c.args.first) 2 (λ e. omega (arith, c.if-first-eq2.false)),
+      ne_eqb (qmode_bits c.args.first) 2 (λ e. omega arith),
     )
