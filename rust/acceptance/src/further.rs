@@ -49,7 +49,7 @@ fn tried(trial: &Trial, name: &str, edit: &Edit) -> Result<Verdict, String> {
         before.push((files::read(&path)?, path));
     }
     let made = edit.apply(&folder);
-    let checked = made.and_then(|_| trial.check_refitted(name));
+    let checked = made.and_then(|_| trial.check(name));
     for (text, path) in &before {
         files::write(path, text)?;
     }

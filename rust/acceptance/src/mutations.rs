@@ -88,7 +88,7 @@ impl<'a> Subject<'a> {
     pub fn tried(&self, file: &Path, change: &Change) -> Result<(Outcome, String), String> {
         let text = files::read(file)?;
         files::write(file, &change.applied(&text))?;
-        let checked = self.trial.check_refitted(self.name);
+        let checked = self.trial.check(self.name);
         files::write(file, &text)?;
         checked.map(outcome)
     }

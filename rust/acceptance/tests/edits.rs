@@ -3,6 +3,7 @@
 //! that does not show the fact, as those of `acceptance/code`, by a check over what is proved.
 //! Where the must-fail edits were not tried since crates/ last changed, the test says so and
 //! leaves both out. The gate sets ALL_EDITS to 1, and then it fails; with 0 both are left out.
+//! Words on the command line choose the edits whose names contain one of them.
 
 use std::process::ExitCode;
 
@@ -16,6 +17,15 @@ fn print(label: &str, verdict: &Verdict) -> bool {
     is_fact
 }
 
+/// Whether the command line asks for an edit.
+fn is_chosen(label: &str) -> bool {
+    let mut words = std::env::args()
+        .skip(1)
+        .filter(|word| !word.starts_with('-'))
+        .peekable();
+    words.peek().is_none() || words.any(|word| label.contains(&word))
+}
+
 /// How many are refused for a fact and how many are not; none where nothing was tried.
 fn tally() -> Result<Option<(usize, usize)>, String> {
     let root = repository::root();
@@ -23,7 +33,11 @@ fn tally() -> Result<Option<(usize, usize)>, String> {
         return Ok(None);
     }
     let (mut rows, open) = must_fail::judged(&root)?;
-    let edits = [open, further::edits(&root)?].concat();
+    rows.retain(|(label, _)| is_chosen(label));
+    let mut edits = [open, further::edits(&root)?].concat();
+    for (name, own) in &mut edits {
+        own.retain(|edit| is_chosen(&format!("{name}/{}", edit.label)));
+    }
     rows.extend(further::tried_all(&root, edits)?);
     let facts = rows.iter().filter(|(label, v)| print(label, v)).count();
     Ok(Some((facts, rows.len() - facts)))
