@@ -46,6 +46,7 @@ pub fn longword_of(reply: Reply) -> u32
 }
 
 // The word's bytes into the incoming buffer, for a read. The room is there: no mark passes B.
+#[tactic(auto, using(crate::proofs::HereCases::room_incoming, crate::proofs::HereCases::stored_incoming, crate::proofs::HereCases::stored_outgoing, crate::proofs::HereCases::stored_neither))]
 pub fn store_by(c: Command, reply: Reply, mark: usize, buffer: &mut [u8])
     requires { incoming_after c mark ≤ length buffer.old }
     ensures { buffer.new ≡ moved_bytes c (longword_of reply) mark buffer.old }

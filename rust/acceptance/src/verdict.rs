@@ -216,17 +216,8 @@ pub fn causes(reports: &[Report]) -> Vec<&Report> {
     reports.iter().filter(|r| !is_consequence(r)).collect()
 }
 
-/// A misfit by which others of its file may be misfits: where a goal is gone, the others may
-/// have moved. An answer that only cites a step of the code that is gone, as a call in
-/// another branch, says nothing of the answers beside it, each of which names its goal.
-fn is_of_file(report: &Report) -> bool {
-    let is_answer = report.file.ends_with("/Answers.antt");
-    let is_step = report.message.starts_with("record ") && report.message.contains("has no field");
-    is_misfit(report) && !(is_answer && is_step)
-}
-
-/// The verdict on an edit that was refused with these reports. A fact is a report that fits,
-/// of a file that does.
+/// The verdict on an edit that was refused with these reports. A fact is a report of a
+/// file that fits: where a goal is gone, the others of its file may have moved.
 pub fn judge(reports: &[Report]) -> Verdict {
     let causes = causes(reports);
     let Some(first) = causes.first() else {
@@ -235,8 +226,8 @@ pub fn judge(reports: &[Report]) -> Verdict {
     if let Some(report) = causes.iter().find(|r| is_malformed(r)) {
         return Verdict::Misfit((*report).clone());
     }
-    let is_bad = |r: &Report| causes.iter().any(|o| o.file == r.file && is_of_file(o));
-    let fits = |r: &&&Report| !is_misfit(r) && !is_bad(r) && !may_be_renamed(r, &causes);
+    let is_bad = |r: &Report| causes.iter().any(|o| o.file == r.file && is_misfit(o));
+    let fits = |r: &&&Report| !is_bad(r) && !may_be_renamed(r, &causes);
     match causes.iter().find(fits) {
         Some(report) => Verdict::Fact((*report).clone()),
         None => Verdict::Misfit((*first).clone()),
@@ -290,20 +281,6 @@ mod tests {
             fact(&other).as_deref(),
             Some("proofs/g/Answers.antt:3 returns")
         );
-    }
-
-    /// An answer that cites a step which is gone, and one beside it that is refused.
-    #[test]
-    fn a_step_that_is_gone() {
-        let step = "./proofs/f/Answers.antt:9:25: error: `returns-in-A`: record `f.Lts.After-a` has no field `store`\n";
-        assert!(!judged(step).is_fact());
-        let beside = "./proofs/f/Answers.antt:3:1: error: `store-requires`: `search`: no proof\n";
-        assert_eq!(
-            fact(&format!("{step}{beside}")).as_deref(),
-            Some("proofs/f/Answers.antt:3 store-requires")
-        );
-        let law = step.replace("f/Answers", "Laws") + &beside.replace("f/Answers", "Laws");
-        assert!(!judged(&law).is_fact());
     }
 
     /// A goal that has another name with the edit has no answer, and so is left open.
