@@ -5,16 +5,16 @@ use mathlib.Core.Path.{◌≡◌, refl, sym, ap, ◌∙◌}
 use mathlib.Core.Bool.{Bool, true, false, and-false, false≢true}
 use mathlib.Core.List.{List}
 use mathlib.Core.Option.{some}
+use Rattle.std.specs.Prelude.{Some}
 use native.Mathlib.Omega.{arith}
 use borrow.Author.Tests.{eq-eqb, ne_eqb, lt-ltb, eqb-false, ltb-true, ltb-false}
 use lib.Bits.{bit_or, or_zero_l}
 use lib.Dec.{eqb, ltb}
 use lib.ListN.{length, take, drop}
-use Rattle.std.specs.Prelude.{if◌then◌else◌}
+use Rattle.std.specs.Prelude.{Some, if◌then◌else◌}
 use Rattle.base.proofs.Tests.{on}
 use Rattle.camac.specs.Words.{qmode_of, is_block, direction_of}
 use Rattle.qmodes.specs.Scan.{after_done, after_other}
-use Rattle.qmodes.specs.declared.scan.Moved.TheVariants.{At}
 use Rattle.qmodes.specs.Modes.{done, left_after, spent, ran_off, leaves, scan_leaves, tries_after, position_after}
 use Rattle.qmodes.specs.model.Answers.{can_wait, words_ahead, place_after_words, place_after_wait}
 use Rattle.qmodes.specs.declared.modes.Answer.{Answer}
@@ -46,7 +46,7 @@ use Rattle.answers.proofs.VisitRoom.{ahead_most, bytes_length}
 
 -- Positions --------------------------------------------------------------------------------------------------------------
 
-done_next : (n : ℕ) → n < 0x17F → after_done (position_at n) ≡ At (position_at (n + 1))
+done_next : (n : ℕ) → n < 0x17F → after_done (position_at n) ≡ Some (position_at (n + 1))
 unfolding after_done after_other
 done_next n h =
     on (ltb (n % 16) 15)
@@ -60,7 +60,7 @@ done_next n h =
     let a : 0 ≡ (n + 1) % 16 = omega arith in
     rw (e, t, s, ← a))
 
-other_next : (n : ℕ) → n < 0x170 → after_other (position_at n) ≡ At (position_at ((n / 16 + 1) * 16))
+other_next : (n : ℕ) → n < 0x170 → after_other (position_at n) ≡ Some (position_at ((n / 16 + 1) * 16))
 unfolding after_other
 other_next n h =
     let t : ltb (n / 16) 23 ≡ true = lt-ltb (n / 16) 23 (omega arith) in

@@ -4,6 +4,7 @@ use Prim.Native.Nat.{ℕ, zero, suc, ◌+◌, ◌-◌, ◌*◌, ◌/◌, ◌%◌
 use mathlib.Core.Path.{◌≡◌, refl, sym, ap, ◌∙◌, subst}
 use mathlib.Core.Bool.{Bool, true, false, false≢true}
 use mathlib.Core.List.{List}
+use mathlib.Core.Logic.{◌⊎◌, inl, inr}
 use native.Mathlib.Omega.{arith}
 use borrow.Author.Tests.{eq-eqb, eqb-true, ltb-true, ltb-false}
 use lib.Bits.{bit_and, and_shr, and_mod, and_zero_r}
@@ -27,7 +28,7 @@ use Rattle.row.specs.model.Words.{longword_in, flags_at, WordsAt, words_stored}
 use Rattle.answers.specs.model.Visit.{rules_of, rules_in, marks_behind, NoteRoom, after_words, bytes_by, bytes_after, after_wait, Words, Waits, Passed, words, wait, Roomy}
 use Rattle.answers.specs.declared.Rules.{Rules}
 use Rattle.answers.specs.declared.Stay.{Stay}
-use Rattle.row.proofs.WordLaws.{words_length, words_none, words_more}
+use Rattle.row.proofs.WordLaws.{words_length, words_none, words_more, first_word}
 
 -- Rules ------------------------------------------------------------------------------------------------------------------
 
@@ -75,6 +76,13 @@ pub passed_as : {rules other : Rules} {limit answers : ℕ} {row b x : List ℕ}
     → Passed other limit row answers s b t x
 passed_as {limit = limit} {answers = answers} {row = row} {b = b} {x = x} {s = s} {t = t} e p =
     subst (λ (y : Rules). Passed y limit row answers s b t x) e p
+
+module _ {rules other : Rules} (e : rules ≡ other) where
+  pub roomy_as : {row b : List ℕ} {answers : ℕ} {s : Stay} → Roomy other row answers s b → Roomy rules row answers s b
+  roomy_as {row = row} {b = b} {answers = answers} {s = s} m = subst (λ (y : Rules). Roomy y row answers s b) (sym e) m
+
+  pub words_as : {row : List ℕ} {answers k : ℕ} {s : Stay} → Words other row answers s k → Words rules row answers s k
+  words_as {row = row} {answers = answers} {k = k} {s = s} w = subst (λ (y : Rules). Words y row answers s k) (sym e) w
 
 -- Marks ------------------------------------------------------------------------------------------------------------------
 
@@ -152,6 +160,11 @@ module _ (rules : Rules) (row : List ℕ) (s : Stay) (b : List ℕ) where
       → b' ≡ bytes_after rules row k s b
   unfolding bytes_after
   bytes_by_lem k d b' e h = h ∙ rw e
+
+  -- words that are written, or a control's
+  pub bytes_kept : (k : ℕ) → (rules.direction ≡ Outgoing) ⊎ (rules.direction ≡ Neither) → b ≡ bytes_after rules row k s b
+  bytes_kept k (inl e) = bytes_by_lem k Outgoing b e refl
+  bytes_kept k (inr e) = bytes_by_lem k Neither b e refl
 
   -- one word
   pub bytes_one : (b' : List ℕ) → rules.direction ≡ Incoming → b' ≡ stored rules.wide (longword_in row (s.taken * 8)) s.marks.incoming b
@@ -291,10 +304,16 @@ module _ (rules : Rules) (row : List ℕ) (answers : ℕ) (s : Stay) (b : List �
   }
 
 -- some of the words that may come
-pub some_words : (rules : Rules) (row : List ℕ) (answers : ℕ) (s : Stay) (most k : ℕ) → most ≤ words_ahead rules.q s.position s.left
-    → s.taken + most ≤ answers → 1 ≤ k → k ≤ most → WordsAt rules.word row s.taken k → Words rules row answers s k
-some_words rules row answers s most k ahead answered some few are =
-    record { some = some; ahead = omega arith; answered = omega arith; are = are }
+module _ {rules : Rules} {row : List ℕ} {answers : ℕ} {s : Stay} {most : ℕ} {k : ℕ}
+    (m : (1 ≤ most) × ((most ≤ words_ahead rules.q s.position s.left) × (s.taken + most ≤ answers))) where
+  pub some_words : 1 ≤ k → k ≤ most → WordsAt rules.word row s.taken k → Words rules row answers s k
+  some_words some few are = record { some = some; ahead = omega arith; answered = omega arith; are = are }
+
+  -- counted, where the first is known to be one
+  pub counted_words : Words rules row answers s 1
+      → (k ≤ most) × (WordsAt rules.word row s.taken k × (1 ≤ most → eqb (bit_and (flags_at row s.taken) rules.word) (rules.word % 4) ≡ true → 1 ≤ k))
+      → Words rules row answers s k
+  counted_words w e = some_words (e.1.1 m.0 (first_word rules.word row s.taken w.are)) e.0 e.1.0
 
 -- Turns ------------------------------------------------------------------------------------------------------------------
 

@@ -1,5 +1,8 @@
 // The answers of one instruction: words, which move, and waits. Clean and flagged answers are judged alike, by a mask of flags; position, tries,
 // words left, marks and note follow from how many there are.
+//
+// Buffer, row and table are lent by owners of their own, so that they stay parameters; the row goes on behind its first `answers`.
+// A field is read into a variable before a match or a struct: in place, with `..m`, a single takes 40 instructions more.
 #![tactic(auto)]
 
 ghost use Rattle.std.specs.Prelude.{◌≡◌, true, false, ◌+◌, ◌*◌, ◌%◌, ◌^◌, ◌<◌, ◌≤◌, eqb, length};
@@ -8,17 +11,17 @@ ghost use Rattle.qmodes.specs.model.Answers.{words_ahead};
 ghost use Rattle.camac.specs.model.Bits.{Passes};
 ghost use Rattle.packing.specs.Packing.{mark_after_words};
 ghost use Rattle.packing.specs.model.Marks.{MarksTo};
-ghost use Rattle.row.specs.model.Words.{flags_at, Tops};
+ghost use Rattle.row.specs.model.Words.{flags_at};
 ghost use Rattle.answers.specs.model.Visit.{rules_in, marks_behind, note_behind, NoteRoom, after_words, bytes_after, waited_with, after_wait, Words, Takes, Waits, Passed, Roomy};
 
 use camac::Direction;
 use packing::Marks;
 use qmodes::QMode;
 use reply::Note;
-use row::{is_word_at, pass_words, read_word, read_words};
+use row::{TopBits, is_word_at, pass_words, read_word, read_words};
 
 // What an instruction decides for its answers: how its words move, and the flags that make an answer a word or, where it is none, no cause.
-#[derive(Clone, Copy)]
+#[derive(Clone, Copy, Debug, PartialEq, Eq)]
 pub struct Rules {
     pub q: QMode,
     pub direction: Direction,
@@ -29,7 +32,7 @@ pub struct Rules {
 
 // Where a run stands at an instruction: replies taken, words left, tries, position as N * 16 + A, marks and note. No words left: it is
 // through. Operations are the replies taken, and status is what their flags gathered.
-#[derive(Clone, Copy)]
+#[derive(Clone, Copy, Debug, PartialEq, Eq)]
 pub struct Stay {
     pub taken: usize,
     pub left: usize,
@@ -47,11 +50,11 @@ fn rules_in(first: u32) -> Rules
     let direction = camac::direction_in(first);
     let ad = camac::has_ad(first);
     Rules {
-        q: q,
-        direction: direction,
+        q,
+        direction,
         wide: camac::is_wide(first),
         word: qmodes::word_flags(q, ad),
-        ad: ad,
+        ad,
     }
 }
 
@@ -60,9 +63,10 @@ fn mark_behind(wide: bool, words: usize, mark: usize) -> usize
     requires { (words ≤ 65536) × ((mark ≤ 2 ^ 60) × (mark % 2 ≡ 0)) }
     ensures { result ≡ mark_after_words wide words mark }
 {
-    packing::mark_after_words(wide, base::u64_of_size(words), base::u64_of_size(mark)) as usize
+    packing::mark_after_words(wide, words as u64, mark as u64) as usize
 }
 
+// calls:moved_words does the same for the fit of a record; calls and answers stand beside one another.
 fn marks_behind(rules: Rules, words: usize, m: Marks) -> Marks
     requires { (words ≤ 65536) × MarksTo (2 ^ 60) m }
     ensures { result ≡ marks_behind rules.direction rules.wide words m }
@@ -81,7 +85,7 @@ fn marks_behind(rules: Rules, words: usize, m: Marks) -> Marks
     }
 }
 
-// The note of the last of some words, by the marks behind it.
+// The note of the last of some words, by the marks behind it: those before are not there any more.
 fn note_behind(rules: Rules, marks: Marks, note: Note) -> Note
     requires { NoteRoom rules.direction rules.wide marks }
     ensures { result ≡ note_behind rules.direction rules.wide marks note }
@@ -116,7 +120,7 @@ fn behind_words(rules: Rules, here: Stay, words: usize, marks: Marks) -> Stay
         left: here.left - words,
         tries: 0,
         position: qmodes::place_after_words(q, here.position, words),
-        marks: marks,
+        marks,
         note: note_behind(rules, marks, note),
     }
 }
@@ -139,10 +143,10 @@ fn take_words(
     incoming: &mut [u8],
     row: &[u8],
     answers: usize,
-    tops: &[u32; 64],
+    tops: &TopBits,
 ) -> Stay
     requires { Roomy rules row.now answers here incoming.old × Words rules row.now answers here 1
-        × ((1 ≤ most) × ((most ≤ words_ahead rules.q here.position here.left) × (here.taken + most ≤ answers))) × Tops tops.now }
+        × ((1 ≤ most) × ((most ≤ words_ahead rules.q here.position here.left) × (here.taken + most ≤ answers))) }
     ensures { Takes rules row.now answers here incoming.old result incoming.new }
 {
     let direction = rules.direction;
@@ -165,11 +169,7 @@ fn take_words(
             };
             behind_words(rules, here, read.words, behind)
         }
-        Direction::Outgoing => {
-            let words = pass_words(row, here.taken, most, rules.word);
-            after_words(rules, here, words)
-        }
-        Direction::Neither => {
+        Direction::Outgoing | Direction::Neither => {
             let words = pass_words(row, here.taken, most, rules.word);
             after_words(rules, here, words)
         }
@@ -183,9 +183,9 @@ fn last_word(
     incoming: &mut [u8],
     row: &[u8],
     answers: usize,
-    tops: &[u32; 64],
+    tops: &TopBits,
 ) -> Marks
-    requires { Roomy rules row.now answers here incoming.old × Words rules row.now answers here 1 × Tops tops.now }
+    requires { Roomy rules row.now answers here incoming.old × Words rules row.now answers here 1 }
     ensures { (result ≡ marks_behind rules.direction rules.wide 1 here.marks)
         × (incoming.new ≡ bytes_after rules row.now 1 here incoming.old) }
 {
@@ -222,35 +222,25 @@ fn waited(tries: usize, position: usize, here: Stay) -> Stay
     requires { here.taken < 2 ^ 61 }
     ensures { result ≡ waited_with tries position here }
 {
-    let marks = here.marks;
-    let note = here.note;
     Stay {
         taken: here.taken + 1,
-        left: here.left,
-        tries: tries,
-        position: position,
-        marks: marks,
-        note: note,
+        tries,
+        position,
+        ..here
     }
 }
 
+#[tactic(auto, unfolding(crate::specs::model::Visit::after_wait, qmodes::specs::Modes::tries_after))]
 fn after_wait(rules: Rules, here: Stay) -> Stay
     requires { (here.tries < 65536) × ((here.taken < 2 ^ 61) × (here.position < 65536)) }
     ensures { result ≡ after_wait rules here }
 {
     let q = rules.q;
     match q {
-        QMode::Stop => waited(0, here.position, here),
-        QMode::Ignore => waited(0, here.position, here),
+        QMode::Stop | QMode::Ignore => waited(0, here.position, here),
         QMode::Repeat => waited(here.tries + 1, here.position, here),
         QMode::Scan => waited(0, qmodes::place_after_wait(q, here.position), here),
     }
-}
-
-fn least(a: usize, b: usize) -> usize
-    ensures { (result ≤ a) × ((result ≤ b) × (1 ≤ a → 1 ≤ b → 1 ≤ result)) }
-{
-    if a < b { a } else { b }
 }
 
 // On over words and waits, until no word is left, the answers end or one of them is a cause.
@@ -261,9 +251,9 @@ fn visit_on(
     incoming: &mut [u8],
     row: &[u8],
     answers: usize,
-    tops: &[u32; 64],
+    tops: &TopBits,
 ) -> Stay
-    requires { (limit < 65536) × Roomy rules row.now answers from incoming.old × Tops tops.now }
+    requires { (limit < 65536) × Roomy rules row.now answers from incoming.old }
     ensures { Passed rules limit row.now answers from incoming.old result incoming.new }
 {
     let mut here = from;
@@ -274,7 +264,7 @@ fn visit_on(
         if is_word_at(row, here.taken, rules.word) {
             let q = rules.q;
             let ahead = qmodes::words_ahead(q, here.position, here.left);
-            let most = least(ahead, answers - here.taken);
+            let most = ahead.min(answers - here.taken);
             if most == 0 {
                 return here;
             }
@@ -313,9 +303,9 @@ pub fn visit(
     incoming: &mut [u8],
     row: &[u8],
     answers: usize,
-    tops: &[u32; 64],
+    tops: &TopBits,
 ) -> Stay
-    requires { (limit < 65536) × (Passes first × Roomy (rules_in first) row.now answers from incoming.old) × Tops tops.now }
+    requires { (limit < 65536) × (Passes first × Roomy (rules_in first) row.now answers from incoming.old) }
     ensures { Passed (rules_in first) limit row.now answers from incoming.old result incoming.new }
 {
     if is_last(first, from, row, answers) {

@@ -63,14 +63,3 @@ pub command_words : (limit : ℕ) (c : Command) (r : Record) → fits_command li
 unfolding fits_command
 command_words limit c r e =
     leb-true _ _ (and_left (leb r.left (words_of c.transfer)) _ (and_right (leb 1 r.left) _ (and_right (not r.ended) _ e)))
-
--- what code calls for the tests of a record by itself, joined
-pub command_joined :
-    (limit : ℕ) (c : Command) (r : Record) (q : QMode) (left words : ℕ) (tried : Bool) (from : ScanPosition) (placed noted : Bool)
-    → q ≡ qmode_of c.transfer → left ≡ r.left → words ≡ words_of c.transfer → tried ≡ tries_fit limit q r.tries
-    → from ≡ position_of c.transfer → placed ≡ position_fits q from r.position → noted ≡ note_fits r.note r.marks
-    → not r.ended && leb 1 left && leb left words && tried && placed && eqb (bit_and r.status waiting_bits) r.status && noted
-    ≡ fits_command limit c r
-unfolding fits_command
-command_joined limit c r q left words tried from placed noted eq el ew et ef ep en =
-    rw (el, ew, et, ep, ef, eq, en) (simp (and_assoc, and-true))

@@ -1,14 +1,16 @@
 -- The calls: start, step, the whole run, several replies, the last moved word (document 01, "The calls" and "Who can cause which refusal").
-use Rattle.std.specs.Prelude.{ℕ, ◌+◌, ◌≡◌, Bool, true, false, List, [], ◌∷◌, leb, eqb, length, take, drop, if◌then◌else◌}
+use Rattle.std.specs.Prelude.{ℕ, ◌+◌, ◌≡◌, Bool, true, false, List, [], ◌∷◌, leb, eqb, length, take, drop, if◌then◌else◌, Some, None, Result, Ok, Err}
+use Rattle.std.specs.Prelude as std
 use Rattle.std.proofs.Math.Option.{Option, none, some}
 use Rattle.base.specs.Checks.{all_of}
-use Rattle.base.specs.Refusals.{not_refused, refusal}
+use Rattle.base.specs.Refusals.{not_refused, refusal, refusal_of}
 use Rattle.camac.specs.Words.{address_of, direction_of, is_enhanced}
 use Rattle.camac.specs.declared.words.Command.{Command}
 use Rattle.camac.specs.declared.words.Transfer.{Transfer}
 use Rattle.camac.specs.declared.words.Transfer.TheVariants.{Single, Block, Enhanced, Inline}
 use Rattle.packing.specs.Packing.{word_at}
-use Rattle.base.specs.declared.Refusal.{Refusal}
+use Rattle.base.specs.Refusals.{Refusal}
+use Rattle.base.specs.declared.refusals.Refused.{Refused}
 use Rattle.listfile.specs.declared.field.Instruction.TheVariants.{Camac, Jump, Literal, Halt}
 use Rattle.walk.specs.Walk.{Visit, on_from}
 use Rattle.walk.specs.Admission.{Plan, Prepared, unfit, ready, prepare}
@@ -141,13 +143,24 @@ step_prepared (ready p) reply s =
 unfoldable pub step_of : List ℕ → State → List ℕ → Called
 step_of list s reply = step_prepared (prepare list (length s.incoming) (length s.outgoing)) reply s
 
--- what code answers for a call
-abbrev pub yield_of : Called → Yield
-yield_of c = record { refusal = c.refusal; run = c.state.run; wanted = c.wanted }
+-- what code answers of a call: the record, which a refusal leaves as the one kept, and the operation, where none is wanted all zero
+abbrev pub operation_or_none : std.Option Operation → Operation
+operation_or_none (Some o) = o
+operation_or_none None = no_operation
 
--- a call is answered as it is defined: its answer, and both lent buffers at its exit
-pub record Yields (called : Called) (y : Yield) (incoming outgoing : List ℕ) : Type 0 where
-  pub answer : y ≡ yield_of called
+abbrev pub run_in : Record → Result Yield Refused → Record
+run_in kept (Ok y) = y.run
+run_in kept (Err r) = kept
+
+abbrev pub wanted_in : Result Yield Refused → Operation
+wanted_in (Ok y) = operation_or_none y.wanted
+wanted_in (Err r) = no_operation
+
+-- a call is answered as it is defined: its answer, with the record kept where it is refused, and both lent buffers at its exit
+pub record Yields (called : Called) (kept : Record) (y : Result Yield Refused) (incoming outgoing : List ℕ) : Type 0 where
+  pub refusal : refusal_of y ≡ called.refusal
+  pub run : run_in kept y ≡ called.state.run
+  pub wanted : wanted_in y ≡ called.wanted
   pub incoming_bytes : incoming ≡ called.state.incoming
   pub outgoing_bytes : outgoing ≡ called.state.outgoing
 
@@ -182,12 +195,20 @@ run_prepared (ready p) list incoming outgoing row =
 unfoldable pub run_of : List ℕ → List ℕ → List ℕ → List ℕ → RunThrough
 run_of list incoming outgoing row = run_prepared (prepare list (length incoming) (length outgoing)) list incoming outgoing row
 
-abbrev pub ran_of : RunThrough → Ran
-ran_of x = record { refusal = x.refusal; taken = x.taken; run = x.state.run }
+-- what code answers of a whole run: the replies taken, and the record
+abbrev pub taken_in : Result Ran Refused → ℕ
+taken_in (Ok x) = x.taken
+taken_in (Err r) = 0
+
+abbrev pub ran_run : Result Ran Refused → Record
+ran_run (Ok x) = x.run
+ran_run (Err r) = refused_record
 
 -- a whole run is answered as it is defined: its answer, and both lent buffers at its exit
-pub record Runs (through : RunThrough) (r : Ran) (incoming outgoing : List ℕ) : Type 0 where
-  pub answer : r ≡ ran_of through
+pub record Runs (through : RunThrough) (r : Result Ran Refused) (incoming outgoing : List ℕ) : Type 0 where
+  pub refusal : refusal_of r ≡ through.refusal
+  pub taken : taken_in r ≡ through.taken
+  pub run : ran_run r ≡ through.state.run
   pub incoming_bytes : incoming ≡ through.state.incoming
   pub outgoing_bytes : outgoing ≡ through.state.outgoing
 
@@ -223,12 +244,25 @@ steps_prepared (ready p) list row s =
 unfoldable pub steps_of : List ℕ → State → List ℕ → Stepping
 steps_of list s row = steps_prepared (prepare list (length s.incoming) (length s.outgoing)) list row s
 
-abbrev pub stepped_of : Stepping → Stepped
-stepped_of x = record { refusal = x.refusal; taken = x.taken; run = x.state.run; wanted = x.wanted }
+-- what code answers of several replies: the replies taken, the record, which a refusal leaves as the one kept, and the operation
+abbrev pub steps_taken : Result Stepped Refused → ℕ
+steps_taken (Ok y) = y.taken
+steps_taken (Err r) = 0
 
--- steps are answered as they are defined: their answer, and both lent buffers at their exit
-pub record Steps (stepping : Stepping) (y : Stepped) (incoming outgoing : List ℕ) : Type 0 where
-  pub answer : y ≡ stepped_of stepping
+abbrev pub steps_run : Record → Result Stepped Refused → Record
+steps_run kept (Ok y) = y.run
+steps_run kept (Err r) = kept
+
+abbrev pub steps_wanted : Result Stepped Refused → Operation
+steps_wanted (Ok y) = operation_or_none y.wanted
+steps_wanted (Err r) = no_operation
+
+-- steps are answered as they are defined: their answer, with the record kept where they are refused, and both lent buffers at their exit
+pub record Steps (stepping : Stepping) (kept : Record) (y : Result Stepped Refused) (incoming outgoing : List ℕ) : Type 0 where
+  pub refusal : refusal_of y ≡ stepping.refusal
+  pub taken : steps_taken y ≡ stepping.taken
+  pub run : steps_run kept y ≡ stepping.state.run
+  pub wanted : steps_wanted y ≡ stepping.wanted
   pub incoming_bytes : incoming ≡ stepping.state.incoming
   pub outgoing_bytes : outgoing ≡ stepping.state.outgoing
 

@@ -6,10 +6,11 @@ use crate::fit::is_within;
 use reply::Note;
 
 // Whether a note is of a word, and of one that lies in this buffer of so many bytes.
+#[tactic(auto, unfolding(crate::specs::Calls::lies_in))]
 fn lies_in(buffer: u8, end: usize, note: Note) -> bool
     ensures { result ≡ lies_in buffer end note }
 {
-    (1 <= note.size) & (note.buffer == buffer) & is_within(note.offset, note.size, end)
+    1 <= note.size && note.buffer == buffer && is_within(note.offset, note.size, end)
 }
 
 // The last moved word, as a part of the buffer that carried it; an empty part of the incoming one if none, or if the note lies outside.

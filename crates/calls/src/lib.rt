@@ -5,40 +5,29 @@ pub mod fit;
 pub mod last;
 pub mod operations;
 
-use base::Refusal;
 pub use fit::{fits_at, moved_words};
 pub use last::last_moved;
-pub use operations::{Operation, no_operation, operation_of};
+pub use operations::{Operation, operation_of};
 use reply::Record;
 
-// The refusals of whoever drives a run.
-pub const ENDED: u8 = 24;
-
-pub const UNFIT: u8 = 23;
-
-pub const NOT_FORMED: u8 = 22;
-
-// What start and step yield beside the buffers.
-#[derive(Clone, Copy)]
+// What start and step yield beside the buffers: the record, and the operation wanted next, if one is.
+#[derive(Clone, Copy, Debug, PartialEq, Eq)]
 pub struct Yield {
-    pub refusal: Refusal,
     pub run: Record,
-    pub wanted: Operation,
+    pub wanted: Option<Operation>,
 }
 
 // What a whole run yields beside the incoming buffer.
-#[derive(Clone, Copy)]
+#[derive(Clone, Copy, Debug, PartialEq, Eq)]
 pub struct Ran {
-    pub refusal: Refusal,
-    pub taken: usize,
     pub run: Record,
+    pub taken: usize,
 }
 
 // What several replies from a record on yield beside the buffers.
-#[derive(Clone, Copy)]
+#[derive(Clone, Copy, Debug, PartialEq, Eq)]
 pub struct Stepped {
-    pub refusal: Refusal,
-    pub taken: usize,
     pub run: Record,
-    pub wanted: Operation,
+    pub taken: usize,
+    pub wanted: Option<Operation>,
 }

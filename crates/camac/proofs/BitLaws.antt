@@ -99,19 +99,6 @@ direction_second first second = command_direction first second (mode_in first) r
 mode_bits : (first : ℕ) → mode_in first ≡ first / 32 % 2 + first / 64 % 2 * 2
 mode_bits first = omega arith
 
--- transfer mode and Q-mode as one number
-pub both_bits : (first mode q : ℕ) → (mode < 4) × (q < 4) → eqb (first / 8 % 16) (mode * 4 + q) ≡ eqb (mode_in first) mode && eqb (qmode_bits first) q
-both_bits first mode q h =
-    on (eqb (mode_in first) mode)
-    (λ m. on (eqb (qmode_bits first) q)
-    (λ e. let a = eqb-true (mode_in first) mode m in let b = eqb-true (qmode_bits first) q e in
-    rw (m, e, eq-eqb (first / 8 % 16) (mode * 4 + q) (omega (arith, both))))
-    (λ e. rw (m, e, ne_eqb (first / 8 % 16) (mode * 4 + q) (λ x. eqb-false (qmode_bits first) q e (omega (arith, both))))))
-    (λ m. rw (m, ne_eqb (first / 8 % 16) (mode * 4 + q) (λ x. eqb-false (mode_in first) mode m (omega (arith, both)))))
-  where
-    both : first / 8 % 16 ≡ first / 32 % 4 * 4 + first / 8 % 4
-    both = omega arith
-
 -- By the function ----------------------------------------------------------------------------------------------------------
 
 -- of an enhanced block whose function is no control
@@ -232,39 +219,6 @@ module _ (first : ℕ) (p : Passes first) where
       (λ s. rw s)
 
 -- Numbers of words -------------------------------------------------------------------------------------------------------------
-
--- modes 1 and 2 are those whose number, one added, is 2 or 3
-pub block_bit : (first : ℕ) → eqb ((first + 32) / 64 % 2) 1 ≡ is_block_in first
-block_bit first = rw half (of (first / 32) (omega arith))
-  where
-    half : (first + 32) / 64 ≡ (first / 32 + 1) / 2
-    half = omega arith
-
-    even : (y j : ℕ) → y ≡ j * 2 → ¬ (y % 2 ≡ 1)
-    even y j h e = omega arith
-
-    odd : (y j : ℕ) → y ≡ j * 2 + 1 → y % 2 ≡ 1
-    odd y j h = omega arith
-
-    of : (k : ℕ) → k % 4 < 4 → eqb ((k + 1) / 2 % 2) 1 ≡ eqb (k % 4) 1 || eqb (k % 4) 2
-    of k h = go (k % 4) refl h
-      where
-        go : (m : ℕ) → k % 4 ≡ m → m < 4 → eqb ((k + 1) / 2 % 2) 1 ≡ eqb (k % 4) 1 || eqb (k % 4) 2
-        go zero m h = rw (m, ne_eqb ((k + 1) / 2 % 2) 1 (even ((k + 1) / 2) (k / 4) (omega arith)))
-        go (suc zero) m h = rw (m, eq-eqb ((k + 1) / 2 % 2) 1 (odd ((k + 1) / 2) (k / 4) (omega arith)))
-        go (suc (suc zero)) m h = rw (m, eq-eqb ((k + 1) / 2 % 2) 1 (odd ((k + 1) / 2) (k / 4) (omega arith)))
-        go (suc (suc (suc zero))) m h = rw (m, ne_eqb ((k + 1) / 2 % 2) 1 (even ((k + 1) / 2) (k / 4 + 1) (omega arith)))
-        go (suc (suc (suc (suc n)))) m h = absurd (omega arith)
-
-pub block_mode : (first : ℕ) → ¬ (mode_in first ≡ 0) → ¬ (mode_in first ≡ 3) → is_block_in first ≡ true
-block_mode first a b = go (mode_in first) refl (omega arith)
-  where
-    go : (mode : ℕ) → mode_in first ≡ mode → mode < 4 → is_block_in first ≡ true
-    go zero m h = absurd (a m)
-    go (suc zero) m h = rw m
-    go (suc (suc zero)) m h = rw m
-    go (suc (suc (suc zero))) m h = absurd (b m)
-    go (suc (suc (suc (suc k)))) m h = absurd (omega arith)
 
 pub block_long : (first : ℕ) → is_block_in first ≡ true → ¬ (mode_in first ≡ 0)
 block_long first b m = let n : false ≡ true = rw m at b in let z : ◌≡◌ {A = ℕ} 0 1 = cc in omega arith

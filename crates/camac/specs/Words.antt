@@ -1,6 +1,6 @@
 -- CAMAC words: what the two longwords of a CAMAC instruction say, and refusals 6 to 9 (document 01, "CAMAC words" and
 -- "Who can cause which refusal", as amended by document 02's E1; the driver manual's "Command Memory Instruction Formats").
-use Rattle.std.specs.Prelude.{ℕ, zero, suc, ◌-◌, ◌/◌, ◌%◌, ◌^◌, Bool, true, false, ◌&&◌, ◌||◌, not, [], ◌∷◌, leb, ltb, eqb, if◌then◌else◌}
+use Rattle.std.specs.Prelude.{ℕ, zero, suc, ◌-◌, ◌/◌, ◌%◌, ◌^◌, Bool, true, false, ◌&&◌, ◌||◌, not, [], ◌∷◌, Result, Ok, Err, leb, ltb, eqb, if◌then◌else◌}
 use Rattle.base.specs.Checks.{◌gives◌, first_of, bit, bits}
 use Rattle.qmodes.specs.Scan.{positions}
 use Rattle.qmodes.specs.Modes.{is_scan}
@@ -13,8 +13,6 @@ use Rattle.camac.specs.declared.words.Command.{Command}
 use Rattle.camac.specs.declared.words.Direction.{Direction}
 use Rattle.camac.specs.declared.words.Direction.TheVariants.{Incoming, Outgoing, Neither}
 use Rattle.qmodes.specs.declared.scan.ScanPosition.{ScanPosition}
-use Rattle.camac.specs.declared.words.Decoded.{Decoded}
-use Rattle.camac.specs.declared.words.Decoded.TheVariants.{Carried, Refused}
 
 -- The first longword -----------------------------------------------------------------------------------------------------
 
@@ -213,10 +211,10 @@ camac_fault len first second = first_of (
     ∷ (bad_second first second || (is_scan_in first && above_p (command_in first second).transfer)) gives 9
     ∷ [])
 
-abbrev pub decoded_by : ℕ → Command → Decoded
-decoded_by zero c = Carried c
-decoded_by (suc number) c = Refused (suc number)
+abbrev pub decoded_by : ℕ → Command → Result Command ℕ
+decoded_by zero c = Ok c
+decoded_by (suc number) c = Err (suc number)
 
 -- a CAMAC field's body decoded, or the number of its refusal
-unfoldable pub decode_of : ℕ → ℕ → ℕ → Decoded
+unfoldable pub decode_of : ℕ → ℕ → ℕ → Result Command ℕ
 decode_of len first second = decoded_by (camac_fault len first second) (command_in first second)

@@ -10,7 +10,7 @@ pub use bits::{
 };
 pub use names::error_name;
 pub use words::{
-    Address, Command, Decoded, Direction, Transfer, address_of, camac_fault, command_in, decode,
+    Address, Command, Direction, Transfer, address_of, camac_fault, command_in, decode,
     direction_of, is_block_of, is_enhanced, numbered_qmode, position_of, qmode_in, qmode_of,
     single_in, words_of,
 };

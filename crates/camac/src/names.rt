@@ -26,8 +26,5 @@ const NAMES: [[u8; 16]; 16] = [
 pub fn error_name(code: usize) -> [u8; 16]
     ensures { result ≡ name_of code }
 {
-    if code < 16 {
-        return NAMES[code];
-    }
-    *b"                "
+    NAMES.get(code).copied().unwrap_or([b' '; 16])
 }

@@ -1,25 +1,21 @@
 -- Each call by its cases: a demand dropped or put behind the others, the oldest taken or none, and a call refused or not.
 use Prim.Native.Nat.{ℕ, ◌+◌, ◌-◌, ◌*◌}
-use mathlib.Core.Path.{◌≡◌, sym, ap, ◌∙◌}
-use mathlib.Core.Bool.{true, false, ◌&&◌}
+use mathlib.Core.Path.{◌≡◌, ◌∙◌}
+use mathlib.Core.Bool.{true, ◌&&◌}
 use mathlib.Core.List.{List}
 use native.Mathlib.Numerals.{add-one}
 use native.Mathlib.Omega.{arith}
 use borrow.Author.Tests.{eq-eqb, ne_eqb}
-use lib.Dec.{eqb}
 use lib.ListN.{set, get_or}
+use Rattle.std.specs.Prelude.{Some, None}
 use Rattle.base.specs.Bytes.{byte_at}
-use Rattle.base.proofs.Tests.{on}
 use Rattle.demands.specs.declared.Demand.{Demand}
-use Rattle.demands.specs.declared.Queued.{Queued}
-use Rattle.demands.specs.declared.Next.{Next}
-use Rattle.demands.specs.declared.Next.TheVariants.{Nothing, Oldest}
-use Rattle.demands.specs.Demands.{demand_of, first_in, waiting_number, with_first, with_waiting, with_mark, is_queue, cell_of, demand_at, with_demand, is_crate, is_row, demands_in, added_to, added_all, Outcome, answer_in, leaving, refused_answer, refusing, add_of, row_of, taken_from, take_of, clear_of}
+use Rattle.demands.specs.Demands.{demand_of, first_in, waiting_number, with_first, with_waiting, with_mark, is_queue, cell_of, demand_at, with_demand, is_crate, added_to, leaving, add_of, taken_from, take_of}
 use Rattle.demands.proofs.LayoutLaws.{Limits}
 
 -- One demand -------------------------------------------------------------------------------------------------------------
 
--- `add_one` names this in its `tactic`, and no answer does: the name of the goal there holds the number 2048, which edits change
+-- `add` names this in its `tactic`, and no answer does: the name of the goal there holds the number 2048, which edits change
 pub added_full : (q : List ℕ) (d : Demand) → waiting_number q ≡ 2048 → added_to q d ≡ with_mark 1 q
 unfolding added_to
 added_full q d h = rw (eq-eqb (waiting_number q) 2048 h)
@@ -30,11 +26,8 @@ module _ (q : List ℕ) {n : ℕ} (e : n ≡ waiting_number q) where
   unfolding added_to with_demand
   added_room d g h = rw (g, e, ne_eqb (waiting_number q) 2048 (λ t. h (e ∙ t)), add-one (cell_of (first_in q + waiting_number q) * 2))
 
-  pub taken_none : n ≡ 0 → taken_from q ≡ leaving Nothing q
-  taken_none h = rw (eq-eqb (waiting_number q) 0 (omega (arith, e, h)))
-
   pub taken_one : (l : Limits q) {f : ℕ} → f ≡ first_in q → ¬ (n ≡ 0)
-      → taken_from q ≡ leaving (Oldest (demand_of (get_or q (f * 2) 0) (get_or q (f * 2 + 1) 0))) (with_first (cell_of (f + 1)) (with_waiting (n - 1) q))
+      → taken_from q ≡ leaving (Some (demand_of (get_or q (f * 2) 0) (get_or q (f * 2 + 1) 0))) (with_first (cell_of (f + 1)) (with_waiting (n - 1) q))
   unfolding demand_at byte_at
   taken_one l g h =
       let cell : cell_of (first_in q) ≡ first_in q = omega (arith, l.first_below) in
@@ -43,47 +36,11 @@ module _ (q : List ℕ) {n : ℕ} (e : n ≡ waiting_number q) where
 -- A call refused or not --------------------------------------------------------------------------------------------------
 
 module _ (q : List ℕ) (d : Demand) where
-  pub add_refused : is_queue q && is_crate d.crate_number ≡ false → add_of q d ≡ refusing q
-  unfolding add_of
-  add_refused t = rw t
-
-  pub add_left : is_queue q && is_crate d.crate_number ≡ true → add_of q d ≡ leaving Nothing (added_to q d)
+  pub add_left : is_queue q && is_crate d.crate_number ≡ true → add_of q d ≡ leaving None (added_to q d)
   unfolding add_of
   add_left t = rw t
 
-module _ (q row : List ℕ) where
-  pub row_refused : is_queue q && is_row row ≡ false → row_of q row ≡ refusing q
-  unfolding row_of
-  row_refused t = rw t
-
-  pub row_left : is_queue q && is_row row ≡ true → row_of q row ≡ leaving Nothing (added_all q (demands_in row))
-  unfolding row_of
-  row_left t = rw t
-
 module _ (q : List ℕ) where
-  pub take_refused : is_queue q ≡ false → take_of q ≡ refusing q
-  unfolding take_of
-  take_refused t = rw t
-
   pub take_left : is_queue q ≡ true → take_of q ≡ taken_from q
   unfolding take_of
   take_left t = rw t
-
-  pub clear_refused : is_queue q ≡ false → clear_of q ≡ refusing q
-  unfolding clear_of
-  clear_refused t = rw t
-
-  pub clear_left : is_queue q ≡ true → clear_of q ≡ leaving Nothing (with_waiting 0 (with_mark 0 q))
-  unfolding clear_of
-  clear_left t = rw t
-
--- what taking leaves is answered as it is
-pub taken_answer : (q : List ℕ) → answer_in (taken_from q).queue ≡ (taken_from q).queued
-taken_answer q = on (eqb (waiting_number q) 0) (λ t. rw t) (λ t. rw t)
-
--- the parts of an outcome
-pub refused_parts : {o : Outcome} {q : List ℕ} {r : Queued} → o ≡ refusing q → r ≡ refused_answer → (r ≡ o.queued) × (q ≡ o.queue)
-refused_parts e f = (f ∙ ap (λ (o : Outcome). o.queued) (sym e), ap (λ (o : Outcome). o.queue) (sym e))
-
-pub left_parts : {o : Outcome} {next : Next} {q q' : List ℕ} {r : Queued} → o ≡ leaving next q → q' ≡ q → r ≡ answer_in q' → (r ≡ o.queued) × (q' ≡ o.queue)
-left_parts e f g = (g ∙ ap answer_in f ∙ ap (λ (o : Outcome). o.queued) (sym e), f ∙ ap (λ (o : Outcome). o.queue) (sym e))

@@ -7,13 +7,11 @@ use mathlib.Core.List.{List, [], ◌∷◌, ◌++◌, append-nil, append_assoc}
 use lib.Dec.{eqb}
 use lib.ListN.{length}
 use Rattle.base.specs.Bytes.{byte_at, short_at}
-use Rattle.std.specs.Prelude.{if◌then◌else◌}
+use Rattle.std.specs.Prelude.{Option, None, if◌then◌else◌}
 use Rattle.base.specs.Refusals.{refusal}
 use Rattle.base.proofs.Bools.{and_left, and_right, both}
 use Rattle.base.proofs.Tests.{on, true_not_false}
 use Rattle.demands.specs.declared.Demand.{Demand}
-use Rattle.demands.specs.declared.Next.{Next}
-use Rattle.demands.specs.declared.Next.TheVariants.{Nothing}
 use Rattle.demands.specs.Demands.{first_in, waiting_number, mark_in, is_queue, waiting_from, waiting_in, is_crate, are_crates, is_row, demands_in, added_to, added_all, taken_from, Outcome, leaving, refusing, add_of, row_of, take_of, clear_of}
 use Rattle.demands.specs.Kept.{Call, Add, AddRow, Take, Clear, outcome_of, is_accepted, after, empty, is_good, staying, dropped, staying_by, staying_over, yielded, gone_by, gone_over, lost_by, lost_over, mark_for, EachAccepted, each_added, oldest_of, Kept}
 use Rattle.demands.proofs.CallLaws.{add_left, take_left}
@@ -32,7 +30,7 @@ record Came (q : List ℕ) (ds : List Demand) (good : Bool) (o : Outcome) : Type
       → mark_in o.queue ≡ mark_for (lost ++ dropped (length (waiting_in q)) (if is_accepted o then ds else []))
   pub good_only : is_accepted o ≡ good
 
-came : {q q' : List ℕ} {ds : List Demand} → is_queue q ≡ true → Added q ds q' → (good : Bool) → Came q ds good (if good then leaving Nothing q' else refusing q)
+came : {q q' : List ℕ} {ds : List Demand} → is_queue q ≡ true → Added q ds q' → (good : Bool) → Came q ds good (if good then leaving None q' else refusing q)
 unfolding staying dropped
 came {q = q} e a true = record { queue = a.queue; wait = rw (counted q) a.wait; mark = λ lost g. rw (counted q) (a.mark lost g); good_only = refl }
 came {q = q} e a false = record {
@@ -50,11 +48,11 @@ record Keeps (q : List ℕ) (c : Call) : Type 0 where
   pub good_only : is_accepted (outcome_of q c) ≡ is_good c
 
 module _ (q : List ℕ) (e : is_queue q ≡ true) where
-  add_is : (d : Demand) → add_of q d ≡ (if is_crate d.crate_number then leaving Nothing (added_to q d) else refusing q)
+  add_is : (d : Demand) → add_of q d ≡ (if is_crate d.crate_number then leaving None (added_to q d) else refusing q)
   unfolding add_of
   add_is d = rw e
 
-  row_is : (row : List ℕ) → row_of q row ≡ (if is_row row then leaving Nothing (added_all q (demands_in row)) else refusing q)
+  row_is : (row : List ℕ) → row_of q row ≡ (if is_row row then leaving None (added_all q (demands_in row)) else refusing q)
   unfolding row_of
   row_is row = rw e
 
@@ -133,7 +131,7 @@ record Answered (q : List ℕ) (o : Outcome) : Type 0 where
   pub counts : is_accepted o ≡ true → o.queued.waiting ≡ length (waiting_in o.queue)
   pub refused : is_accepted o ≡ false → (o.queue ≡ q) × (o.queued.refusal ≡ refusal 25)
 
-left : {q q' : List ℕ} {next : Next} → Answered q (leaving next q')
+left : {q q' : List ℕ} {next : Option Demand} → Answered q (leaving next q')
 left {q' = q'} = record { counts = λ t. sym (counted q'); refused = λ t. absurd (true_not_false t) }
 
 unchanged : {q : List ℕ} → Answered q (refusing q)

@@ -6,7 +6,7 @@ use mathlib.Core.List.{List, [], ◌∷◌}
 use native.Mathlib.Omega.{arith}
 use borrow.Author.Tests.{eq-eqb, ne_eqb, eqb-true, lt-ltb, ltb-true, le-leb, leb-true}
 use lib.Dec.{leb, ltb, eqb}
-use lib.ListN.{length, length-set}
+use lib.ListN.{length, set, length-set}
 use lib.Seq.{sets, length-sets, get_or-set_same}
 use Rattle.base.specs.Bytes.{byte_at, short_bytes}
 use Rattle.base.specs.Checks.{all_of}
@@ -104,6 +104,31 @@ module _ {q : List ℕ} {first n mark : ℕ} (s : Says q first n mark) where
         waiting_is = short_other q (cell_of k * 2) bytes 4098 (λ h. omega arith) ∙ s.waiting_is;
         mark_is = sets_other q (cell_of k * 2) bytes 4100 (λ h. omega arith) ∙ s.mark_is;
       }
+
+-- bytes that keep the limits keep them with a part put in
+module _ (q : List ℕ) (e : is_queue q ≡ true) where
+  kept : Limits q
+  kept = limits q e
+
+  pub mark_kept : (v : ℕ) → v ≤ 1 → is_queue (with_mark v q) ≡ true
+  mark_kept v b = is_queue_lem (mark_put (says kept) v) kept.first_below kept.waiting_most b
+
+  pub waiting_kept : (v : ℕ) → v ≤ 2048 → is_queue (with_waiting v q) ≡ true
+  waiting_kept v b = is_queue_lem (waiting_put (says kept) v (omega arith)) kept.first_below b kept.mark_most
+
+  pub first_kept : (v : ℕ) → v < 2048 → is_queue (with_first v q) ≡ true
+  first_kept v b = is_queue_lem (first_put (says kept) v (omega arith)) b kept.waiting_most kept.mark_most
+
+  pub cell_kept : (at v : ℕ) → at < 4096 → is_queue (set q at v) ≡ true
+  unfolding byte_at
+  cell_kept at v b =
+      let s : Says (set q at v) (first_in q) (waiting_number q) (mark_in q) = record {
+        long = length-set q at v ∙ kept.long;
+        first_is = short_other q at (v ∷ []) 4096 (λ h. omega arith);
+        waiting_is = short_other q at (v ∷ []) 4098 (λ h. omega arith);
+        mark_is = sets_other q at (v ∷ []) 4100 (λ h. omega arith);
+      } in
+      is_queue_lem s kept.first_below kept.waiting_most kept.mark_most
 
 -- Cells ------------------------------------------------------------------------------------------------------------------
 

@@ -1,61 +1,52 @@
--- The loops over a row. From a place on it is the demand there and the row behind it; a row judged or added up to a place comes, with the rest, to the row
--- judged or added whole.
-use Prim.Native.Nat.{ℕ, suc, ◌+◌, ◌%◌, ◌≤◌}
+-- A row of whole demands as pairs of bytes: its demands are theirs, and what is judged or added pair by pair is the row judged or added.
+use Prim.Native.Nat.{ℕ, zero, suc, ◌+◌, ◌*◌, ◌/◌, ◌%◌, ◌≤◌, ◌<◌}
 use mathlib.Core.Path.{◌≡◌, refl, sym, ap, ◌∙◌}
-use mathlib.Core.Bool.{Bool, true, false, ◌&&◌, and-true, and_assoc}
-use mathlib.Core.List.{List, [], ◌∷◌}
+use mathlib.Core.Bool.{Bool, true, false, ◌&&◌}
+use mathlib.Core.List.{List, [], ◌∷◌, map}
 use native.Mathlib.Omega.{arith}
 use borrow.Author.Tests.{eqb-true, eq-eqb, ne_eqb}
 use lib.Dec.{eqb}
 use lib.ListN.{length, get_or, drop, drop_of_length-le}
 use lib.Seq.{drop-cons}
+use Rattle.std.proofs.Math.Bool.{and-true, and_assoc}
+use Rattle.std.specs.Simd.{first_chunks}
 use Rattle.base.proofs.Bools.{and_left}
 use Rattle.demands.specs.declared.Demand.{Demand}
-use Rattle.demands.specs.Demands.{demand_of, is_queue, is_crate, are_crates, is_row, demands_in, added_to, added_all}
-use Rattle.demands.proofs.WaitingLaws.{added_one}
+use Rattle.demands.specs.Demands.{demand_of, is_crate, are_crates, is_row, demands_in, added_to, added_all}
 
--- Demands from a place on ------------------------------------------------------------------------------------------------
+abbrev pub demand_in : List ℕ → Demand
+demand_in pair = demand_of (get_or pair 0 0) (get_or pair 1 0)
 
-abbrev demand_in : List ℕ → ℕ → Demand
-demand_in row at = demand_of (get_or row at 0) (get_or row (at + 1) 0)
+pairs_from : (row : List ℕ) (k : ℕ) → length row ≡ k * 2 → demands_in row ≡ map demand_in (first_chunks 2 k row)
+unfolding demands_in
+pairs_from [] zero e = refl
+pairs_from [] (suc k) e = absurd (omega arith)
+pairs_from (c ∷ []) k e = absurd (omega arith)
+pairs_from (c ∷ s ∷ row) zero e = absurd (omega arith)
+pairs_from (c ∷ s ∷ row) (suc k) e = ap (λ (ds : List Demand). demand_of c s ∷ ds) (pairs_from row k (omega arith))
 
-module _ (row : List ℕ) (at : ℕ) where
-  demands_more : at + 2 ≤ length row → demands_in (drop at row) ≡ demand_in row at ∷ demands_in (drop (at + 2) row)
-  unfolding demands_in
-  demands_more h =
-      let one : at + 1 ≡ suc at = omega arith in
-      let two : at + 2 ≡ suc (suc at) = omega arith in
-      rw (one, two)
-      (ap demands_in (drop-cons row at 0 (omega arith) ∙ ap (λ (l : List ℕ). get_or row at 0 ∷ l) (drop-cons row (suc at) 0 (omega arith))))
+pub demands_pairs : (row : List ℕ) {pairs : List (List ℕ)} → length row % 2 ≡ 0 → pairs ≡ first_chunks 2 (length row / 2) row
+    → demands_in row ≡ map demand_in pairs
+demands_pairs row e f = pairs_from row (length row / 2) (omega arith) ∙ ap (map demand_in) (sym f)
 
-  demands_none : length row ≤ at → demands_in (drop at row) ≡ []
-  unfolding demands_in
-  demands_none h = ap demands_in (drop_of_length-le row h)
+-- A row judged -----------------------------------------------------------------------------------------------------------
 
--- A row judged up to a place ---------------------------------------------------------------------------------------------
+pub judging_next : (pairs : List (List ℕ)) (i : ℕ) (are : Bool) → i < length pairs
+    → are && are_crates (map demand_in (drop i pairs)) ≡ (are && is_crate (get_or (get_or pairs i []) 0 0)) && are_crates (map demand_in (drop (i + 1) pairs))
+judging_next pairs i are h =
+    let next : i + 1 ≡ suc i = omega arith in
+    let p = get_or pairs i [] in
+    rw next
+    (ap (λ (ps : List (List ℕ)). are && are_crates (map demand_in ps)) (drop-cons pairs i [] h)
+    ∙ sym (and_assoc are (is_crate (get_or p 0 0)) (are_crates (map demand_in (drop (suc i) pairs)))))
 
-pub record Judging (row : List ℕ) (at : ℕ) (are : Bool) : Type 0 where
-  pub whole : at % 2 ≡ 0
-  pub same : are_crates (demands_in row) ≡ are && are_crates (demands_in (drop at row))
+pub judging_end : (pairs : List (List ℕ)) (i : ℕ) (are : Bool) → length pairs ≤ i → are ≡ are && are_crates (map demand_in (drop i pairs))
+judging_end pairs i are h = sym (ap (λ (ps : List (List ℕ)). are && are_crates (map demand_in ps)) (drop_of_length-le pairs h) ∙ and-true are)
 
-pub judging_none : (row : List ℕ) → Judging row 0 true
-judging_none row = record { whole = refl; same = refl }
-
-module _ {row : List ℕ} {at : ℕ} {are : Bool} (k : Judging row at are) where
-  pub judging_next : at + 2 ≤ length row → {is : Bool} → is ≡ is_crate (get_or row at 0) → Judging row (at + 2) (are && is)
-  judging_next h e = record {
-    whole = omega (arith, k.whole);
-    same =
-        k.same ∙ ap (λ (ds : List Demand). are && are_crates ds) (demands_more row at h)
-        ∙ sym (and_assoc are (is_crate (get_or row at 0)) (are_crates (demands_in (drop (at + 2) row))))
-        ∙ ap (λ (b : Bool). (are && b) && are_crates (demands_in (drop (at + 2) row))) (sym e);
-  }
-
-  pub judging_end : length row ≤ at → length row % 2 ≡ 0 → are ≡ is_row row
-  unfolding is_row
-  judging_end h even =
-      rw (eq-eqb (length row % 2) 0 even)
-      (sym (k.same ∙ ap (λ (ds : List Demand). are && are_crates ds) (demands_none row at h) ∙ and-true are))
+pub judged_row : (row : List ℕ) {pairs : List (List ℕ)} → length row % 2 ≡ 0 → pairs ≡ first_chunks 2 (length row / 2) row
+    → are_crates (map demand_in pairs) ≡ is_row row
+unfolding is_row
+judged_row row {pairs = pairs} e f = rw (eq-eqb (length row % 2) 0 e) (ap are_crates (sym (demands_pairs row e f)))
 
 pub odd_row : (row : List ℕ) → ¬ (length row % 2 ≡ 0) → false ≡ is_row row
 unfolding is_row
@@ -65,25 +56,16 @@ pub even_row : (row : List ℕ) → is_row row ≡ true → length row % 2 ≡ 0
 unfolding is_row
 even_row row e = eqb-true _ _ (and_left (eqb (length row % 2) 0) (are_crates (demands_in row)) e)
 
--- A row added up to a place ----------------------------------------------------------------------------------------------
+-- A row added up to a pair -----------------------------------------------------------------------------------------------
 
-pub record Adding (q₀ row q : List ℕ) (at : ℕ) : Type 0 where
-  pub whole : at % 2 ≡ 0
-  pub queue : is_queue q ≡ true
-  pub same : added_all q (demands_in (drop at row)) ≡ added_all q₀ (demands_in row)
-
-pub adding_none : (q row : List ℕ) → is_queue q ≡ true → Adding q row q 0
-adding_none q row e = record { whole = refl; queue = e; same = refl }
-
-module _ {q₀ row q : List ℕ} {at : ℕ} (k : Adding q₀ row q at) where
-  pub adding_next : at + 2 ≤ length row → {q' : List ℕ} → q' ≡ added_to q (demand_in row at) → Adding q₀ row q' (at + 2)
+module _ (q : List ℕ) (pairs : List (List ℕ)) (i : ℕ) where
+  pub adding_next : i < length pairs
+      → added_all (added_to q (demand_in (get_or pairs i []))) (map demand_in (drop (i + 1) pairs)) ≡ added_all q (map demand_in (drop i pairs))
   unfolding added_all
-  adding_next h e = record {
-    whole = omega (arith, k.whole);
-    queue = ap is_queue e ∙ (added_one q k.queue (demand_in row at)).queue;
-    same = ap (λ (l : List ℕ). added_all l (demands_in (drop (at + 2) row))) e ∙ ap (added_all q) (sym (demands_more row at h)) ∙ k.same;
-  }
+  adding_next h =
+      let next : i + 1 ≡ suc i = omega arith in
+      rw next (ap (λ (ps : List (List ℕ)). added_all q (map demand_in ps)) (sym (drop-cons pairs i [] h)))
 
-  pub adding_end : length row ≤ at → q ≡ added_all q₀ (demands_in row)
+  pub adding_end : length pairs ≤ i → q ≡ added_all q (map demand_in (drop i pairs))
   unfolding added_all
-  adding_end h = ap (added_all q) (sym (demands_none row at h)) ∙ k.same
+  adding_end h = ap (λ (ps : List (List ℕ)). added_all q (map demand_in ps)) (sym (drop_of_length-le pairs h))

@@ -10,10 +10,9 @@ use native.Mathlib.Numerals.{add-one}
 use borrow.Author.Tests.{eqb-true, eqb-false, eq-eqb, ne_eqb}
 use lib.Dec.{eqb}
 use lib.ListN.{length, length-append}
+use Rattle.std.specs.Prelude.{Option, Some, None}
 use Rattle.base.proofs.Tests.{on}
 use Rattle.demands.specs.declared.Demand.{Demand}
-use Rattle.demands.specs.declared.Next.{Next}
-use Rattle.demands.specs.declared.Next.TheVariants.{Nothing, Oldest}
 use Rattle.demands.specs.Demands.{first_in, waiting_number, mark_in, with_first, with_waiting, with_mark, with_demand, is_queue, cell_of, demand_at, waiting_from, waiting_in, kept_behind, added_to, added_all, taken_from}
 use Rattle.demands.specs.Kept.{staying, dropped, mark_for, yielded, oldest_of}
 use Rattle.demands.proofs.LayoutLaws.{Says, Limits, limits, says, is_queue_lem, first_put, waiting_put, mark_put, demand_put, first_cells, waiting_cells, mark_cells, cell_put, cell_other, cell_round}
@@ -152,7 +151,7 @@ added_all_lem q (d ∷ ds) e =
 -- The oldest out, and all out --------------------------------------------------------------------------------------------
 
 -- what taking leaves
-pub record Shorter (q : List ℕ) (next : Next) (q' : List ℕ) : Type 0 where
+pub record Shorter (q : List ℕ) (next : Option Demand) (q' : List ℕ) : Type 0 where
   pub queue : is_queue q' ≡ true
   pub wait : waiting_in q ≡ yielded next ++ waiting_in q'
   pub oldest : next ≡ oldest_of (waiting_in q)
@@ -162,11 +161,11 @@ module _ (q : List ℕ) (e : is_queue q ≡ true) where
   lim : Limits q
   lim = limits q e
 
-  empty_out : waiting_number q ≡ 0 → Shorter q Nothing q
+  empty_out : waiting_number q ≡ 0 → Shorter q None q
   unfolding waiting_from
   empty_out h = record { queue = e; wait = refl; oldest = rw h; mark = refl }
 
-  one_out : ¬ (waiting_number q ≡ 0) → Shorter q (Oldest (demand_at q (first_in q))) (with_first (cell_of (first_in q + 1)) (with_waiting (waiting_number q - 1) q))
+  one_out : ¬ (waiting_number q ≡ 0) → Shorter q (Some (demand_at q (first_in q))) (with_first (cell_of (first_in q + 1)) (with_waiting (waiting_number q - 1) q))
   unfolding waiting_from
   one_out h =
       let first = first_in q in

@@ -1,13 +1,11 @@
 -- Demands kept beside the run (document 02, E2). The queue is bytes that the host lends.
-use Rattle.std.specs.Prelude.{ℕ, zero, suc, ◌+◌, ◌-◌, ◌*◌, ◌%◌, Bool, true, false, ◌&&◌, not, List, [], ◌∷◌, leb, ltb, eqb, length, set, if◌then◌else◌}
+use Rattle.std.specs.Prelude.{ℕ, zero, suc, ◌+◌, ◌-◌, ◌*◌, ◌%◌, Bool, true, false, ◌&&◌, not, Option, Some, None, List, [], ◌∷◌, leb, ltb, eqb, length, set, if◌then◌else◌}
 use Rattle.std.proofs.lemmas.List.Edits.{sets}
 use Rattle.base.specs.Bytes.{byte_at, short_at, short_bytes}
 use Rattle.base.specs.Checks.{all_of}
 use Rattle.base.specs.Refusals.{not_refused, refusal}
+use Rattle.base.specs.Refusals.{Refusal}
 use Rattle.demands.specs.declared.Demand.{Demand}
-use Rattle.demands.specs.declared.Queued.{Queued}
-use Rattle.demands.specs.declared.Next.{Next}
-use Rattle.demands.specs.declared.Next.TheVariants.{Nothing, Oldest}
 
 -- "each two bytes: a crate number and an SGL (graded LAM, look-at-me) byte"
 abbrev pub demand_of : ℕ → ℕ → Demand
@@ -95,10 +93,16 @@ is_row row = eqb (length row % 2) 0 && are_crates (demands_in row)
 
 -- The calls --------------------------------------------------------------------------------------------------------------
 
+-- what a call answers: its refusal, how many wait, and whether one was dropped since the last clear
+pub record Queued : Type 0 where
+  pub refusal : Refusal
+  pub waiting : ℕ
+  pub overflow : Bool
+
 -- what a call answers, what it yields, and the queue after it
 pub record Outcome : Type 0 where
   pub queued : Queued
-  pub next : Next
+  pub next : Option Demand
   pub queue : List ℕ
 
 -- how many wait, and the mark
@@ -106,7 +110,7 @@ abbrev pub answer_in : List ℕ → Queued
 answer_in q = record { refusal = not_refused; waiting = waiting_number q; overflow = not (eqb (mark_in q) 0) }
 
 -- a call that is accepted
-abbrev pub leaving : Next → List ℕ → Outcome
+abbrev pub leaving : Option Demand → List ℕ → Outcome
 leaving next q = record { queued = answer_in q; next = next; queue = q }
 
 -- "A refusal yields number, place and zeros" (document 01)
@@ -115,25 +119,25 @@ refused_answer = record { refusal = refusal 25; waiting = 0; overflow = false }
 
 -- "a call so refused changes neither queue nor mark"
 abbrev pub refusing : List ℕ → Outcome
-refusing q = record { queued = refused_answer; next = Nothing; queue = q }
+refusing q = record { queued = refused_answer; next = None; queue = q }
 
 -- adding one: refused for the queue or the crate, 25
 unfoldable pub add_of : List ℕ → Demand → Outcome
-add_of q d = if is_queue q && is_crate d.crate_number then leaving Nothing (added_to q d) else refusing q
+add_of q d = if is_queue q && is_crate d.crate_number then leaving None (added_to q d) else refusing q
 
 -- adding a row: refused for the queue or any part of the row, which is judged whole before a demand of it is added
 unfoldable pub row_of : List ℕ → List ℕ → Outcome
-row_of q row = if is_queue q && is_row row then leaving Nothing (added_all q (demands_in row)) else refusing q
+row_of q row = if is_queue q && is_row row then leaving None (added_all q (demands_in row)) else refusing q
 
 -- "Taking yields nothing exactly when none waits"; "oldest out first"
 abbrev pub taken_from : List ℕ → Outcome
 taken_from q =
-    if eqb (waiting_number q) 0 then leaving Nothing q
-    else leaving (Oldest (demand_at q (first_in q))) (with_first (cell_of (first_in q + 1)) (with_waiting (waiting_number q - 1) q))
+    if eqb (waiting_number q) 0 then leaving None q
+    else leaving (Some (demand_at q (first_in q))) (with_first (cell_of (first_in q + 1)) (with_waiting (waiting_number q - 1) q))
 
 unfoldable pub take_of : List ℕ → Outcome
 take_of q = if is_queue q then taken_from q else refusing q
 
 -- "an overflow mark, which only the clear call takes off; clear also empties"
 unfoldable pub clear_of : List ℕ → Outcome
-clear_of q = if is_queue q then leaving Nothing (with_waiting 0 (with_mark 0 q)) else refusing q
+clear_of q = if is_queue q then leaving None (with_waiting 0 (with_mark 0 q)) else refusing q

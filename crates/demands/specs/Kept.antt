@@ -1,9 +1,7 @@
 -- What a queue keeps over every list of calls (document 02, E2). The statement is Kept, last on this page; the proof is proofs/Kept.
-use Rattle.std.specs.Prelude.{ℕ, ◌+◌, ◌≡◌, Bool, true, false, List, [], ◌∷◌, ◌++◌, eqb, length, replicate, if◌then◌else◌}
+use Rattle.std.specs.Prelude.{Option, Some, None, ℕ, ◌+◌, ◌≡◌, Bool, true, false, List, [], ◌∷◌, ◌++◌, eqb, length, replicate, if◌then◌else◌}
 use Rattle.base.specs.Refusals.{refusal}
 use Rattle.demands.specs.declared.Demand.{Demand}
-use Rattle.demands.specs.declared.Next.{Next}
-use Rattle.demands.specs.declared.Next.TheVariants.{Nothing, Oldest}
 use Rattle.demands.specs.Demands.{mark_in, waiting_in, is_crate, is_row, demands_in, Outcome, add_of, row_of, take_of, clear_of}
 
 -- Lists of calls ---------------------------------------------------------------------------------------------------------
@@ -69,9 +67,9 @@ staying_over q [] = []
 staying_over q (c ∷ cs) = staying_by q c ++ staying_over (outcome_of q c).queue cs
 
 -- "what was taken and cleared, in order"
-abbrev pub yielded : Next → List Demand
-yielded Nothing = []
-yielded (Oldest d) = d ∷ []
+abbrev pub yielded : Option Demand → List Demand
+yielded None = []
+yielded (Some d) = d ∷ []
 
 abbrev pub gone_by : List ℕ → Call → List Demand
 gone_by q (Add d) = []
@@ -115,9 +113,9 @@ each_added q (d ∷ ds) = each_added (add_of q d).queue ds
 -- The statement ----------------------------------------------------------------------------------------------------------
 
 -- nothing of none, else the oldest
-abbrev pub oldest_of : List Demand → Next
-oldest_of [] = Nothing
-oldest_of (d ∷ ds) = Oldest d
+abbrev pub oldest_of : List Demand → Option Demand
+oldest_of [] = None
+oldest_of (d ∷ ds) = Some d
 
 pub record Kept : Type 0 where
   -- "For every list of add, add-row, take and clear from empty": "what was taken and cleared, in order, followed by what still waits, is what accepted

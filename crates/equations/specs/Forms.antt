@@ -4,8 +4,8 @@ use Rattle.base.specs.Refusals.{not_refused}
 use Rattle.packing.specs.Packing.{bytes_of}
 use Rattle.listfile.specs.Fields.{Field, Fields, faulty}
 use Rattle.listfile.specs.declared.field.Instruction.TheVariants.{Halt}
-use Rattle.walk.specs.declared.Admission.{Admission}
-use Rattle.walk.specs.declared.Admission.TheVariants.{Refused, Admitted}
+use Rattle.walk.specs.Admission.{Admission}
+use Rattle.walk.specs.Admission.{Refused, Admitted}
 use Rattle.reply.specs.Effect.{State}
 use Rattle.reply.specs.declared.records.Note.{Note}
 use Rattle.reply.specs.declared.records.Record.{Record}

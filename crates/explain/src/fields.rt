@@ -1,19 +1,15 @@
 // The fields of a list in words.
-use crate::text::{print, print_column, print_hex, print_number, print_plural, print_word};
-use camac::{Address, Command, Direction, Transfer};
+use crate::text::{Destination, Word, plural};
+use camac::{Command, Direction, Transfer};
 use listfile::Instruction;
 use qmodes::QMode;
-use std::io;
 use std::io::Write;
+use std::{fmt, io};
 
 // The first field, below the names of the columns.
 pub(crate) fn print_head(out: &mut impl Write, limit: u64) -> io::Result<()> {
-    print(
-        out,
-        b"  place  number  what it does\n      0    head  format 1, try limit R = ",
-    )?;
-    print_number(out, limit)?;
-    print(out, b"\n")
+    writeln!(out, "  place  number  what it does")?;
+    writeln!(out, "      0    head  format 1, try limit R = {limit}")
 }
 
 // An instruction, with its place and its number.
@@ -22,154 +18,127 @@ pub(crate) fn print_field(
     place: usize,
     number: usize,
     limit: u64,
-    i: Instruction,
+    instruction: Instruction,
 ) -> io::Result<()> {
-    print_column(out, place as u64, 7)?;
-    print_column(out, number as u64, 8)?;
-    print(out, b"  ")?;
-    match i {
-        Instruction::Camac(c) => print_command(out, limit, c),
-        Instruction::Jump(target) => {
-            print(out, b"jump to instruction ")?;
-            print_number(out, target as u64)?;
-            print(out, b"\n")
-        }
-        Instruction::Literal(v) => {
-            print(out, b"store the literal longword ")?;
-            print_hex(out, v, 8)?;
-            print(out, b"h\n")
-        }
-        Instruction::Halt => print(out, b"halt: end the run with code 0\n"),
+    write!(out, "{place:>7}{number:>8}  ")?;
+    match instruction {
+        Instruction::Camac(command) => print_command(out, limit, command),
+        Instruction::Jump(target) => writeln!(out, "jump to instruction {target}"),
+        Instruction::Literal(value) => writeln!(out, "store the literal longword {value:08X}h"),
+        Instruction::Halt => writeln!(out, "halt: end the run with code 0"),
     }
 }
 
 // A CAMAC instruction: what it moves and where; in a second line its Q-mode and AD.
-pub(crate) fn print_command(out: &mut impl Write, limit: u64, c: Command) -> io::Result<()> {
-    let t = c.transfer;
-    print_transfer(out, t, c.wide)?;
-    print_address(out, camac::address_of(t))?;
-    print_function(out, t)?;
-    print(out, b"\n                 ")?;
-    print_rule(out, limit, t)?;
-    print_ad(out, camac::qmode_of(t), c.ad)
+fn print_command(out: &mut impl Write, limit: u64, command: Command) -> io::Result<()> {
+    let Command { transfer, wide, ad } = command;
+    let to = Destination(camac::address_of(transfer));
+    let function = function_of(transfer);
+    writeln!(out, "{}, {to} ({function})", Moves { transfer, wide })?;
+    write!(out, "                 ")?;
+    print_rule(out, limit, transfer)?;
+    print_ad(out, camac::qmode_of(transfer), ad)
 }
 
-fn print_transfer(out: &mut impl Write, t: Transfer, wide: bool) -> io::Result<()> {
-    print_direction(out, t)?;
-    match t {
-        Transfer::Single(_, _) => print_single(out, t, wide),
-        Transfer::Block(_, _, n) => {
-            print(out, b"a block of ")?;
-            print_words(out, wide, n)
-        }
-        Transfer::Enhanced(_, _, n) => {
-            print(out, b"an enhanced block of ")?;
-            print_words(out, wide, n)
-        }
-        Transfer::Inline(_, _, v) => {
-            print(out, b"write the list's own word ")?;
-            print_word(out, wide, v)
+// What a transfer moves.
+#[derive(Clone, Copy)]
+struct Moves {
+    transfer: Transfer,
+    wide: bool,
+}
+
+impl fmt::Display for Moves {
+    fn fmt<W: fmt::Write>(&self, f: &mut fmt::Formatter<W>) -> fmt::Result {
+        let wide = self.wide;
+        let verb = verb_of(camac::direction_of(self.transfer));
+        match self.transfer {
+            Transfer::Single(_, _) if verb.is_empty() => write!(f, "command without data"),
+            Transfer::Single(_, _) => write!(f, "{verb}{}", Words { n: 1, wide }),
+            Transfer::Block(_, _, n) => write!(f, "{verb}a block of {}", Words { n, wide }),
+            Transfer::Enhanced(_, _, n) => {
+                write!(f, "{verb}an enhanced block of {}", Words { n, wide })
+            }
+            Transfer::Inline(_, _, bits) => {
+                write!(f, "write the list's own word {}", Word { wide, bits })
+            }
         }
     }
 }
 
-// An inline write moves no word of a buffer, nor does control.
-fn print_direction(out: &mut impl Write, t: Transfer) -> io::Result<()> {
-    let d = camac::direction_of(t);
-    match d {
-        Direction::Incoming => print(out, b"read "),
-        Direction::Outgoing => print(out, b"write "),
-        Direction::Neither => Ok(()),
-    }
-}
-
-// A single of a control function has no data.
-fn print_single(out: &mut impl Write, t: Transfer, wide: bool) -> io::Result<()> {
-    let d = camac::direction_of(t);
-    match d {
-        Direction::Incoming => print_words(out, wide, 1),
-        Direction::Outgoing => print_words(out, wide, 1),
-        Direction::Neither => print(out, b"command without data"),
+// A command that moves no word of a buffer has no verb.
+fn verb_of(direction: Direction) -> &'static str {
+    match direction {
+        Direction::Incoming => "read ",
+        Direction::Outgoing => "write ",
+        Direction::Neither => "",
     }
 }
 
 // Some words and their size.
-fn print_words(out: &mut impl Write, wide: bool, n: u64) -> io::Result<()> {
-    print_plural(out, n, b" word of ", b" words of ")?;
-    if wide {
-        print(out, b"24 bits")
-    } else {
-        print(out, b"16 bits")
+#[derive(Clone, Copy)]
+struct Words {
+    n: u64,
+    wide: bool,
+}
+
+impl fmt::Display for Words {
+    fn fmt<W: fmt::Write>(&self, f: &mut fmt::Formatter<W>) -> fmt::Result {
+        let words = plural(self.n, "word", "words");
+        let bits = bits_of(self.wide);
+        write!(f, "{words} of {bits} bits")
     }
 }
 
-pub(crate) fn print_address(out: &mut impl Write, a: Address) -> io::Result<()> {
-    print(out, b", crate ")?;
-    print_number(out, a.crate_number as u64)?;
-    print(out, b", N ")?;
-    print_number(out, a.station as u64)?;
-    print(out, b", A ")?;
-    print_number(out, a.subaddress as u64)?;
-    print(out, b", F ")?;
-    print_number(out, a.function as u64)
+fn bits_of(wide: bool) -> u32 {
+    if wide { 24 } else { 16 }
 }
 
 // What the function is: control where its 8-bit is set, else a write where its 16-bit is. A list sequencer's A says the direction.
-fn print_function(out: &mut impl Write, t: Transfer) -> io::Result<()> {
-    let a = camac::address_of(t);
-    let f = a.function;
-    if f / 8 % 2 == 1 {
-        if camac::is_enhanced(t) {
-            print(out, b" (list sequencer, A says the direction)")
-        } else {
-            print(out, b" (control)")
-        }
-    } else if f / 16 % 2 == 1 {
-        print(out, b" (write)")
+fn function_of(transfer: Transfer) -> &'static str {
+    let function = camac::address_of(transfer).function;
+    if function & 8 == 0 {
+        if function & 16 == 0 { "read" } else { "write" }
+    } else if camac::is_enhanced(transfer) {
+        "list sequencer, A says the direction"
     } else {
-        print(out, b" (read)")
+        "control"
     }
 }
 
 // The Q-mode, and what Q does.
-fn print_rule(out: &mut impl Write, limit: u64, t: Transfer) -> io::Result<()> {
-    let q = camac::qmode_of(t);
-    match q {
-        QMode::Stop => {
-            if camac::is_block_of(t) {
-                print(out, b"stop (Q = 0 closes the block, the list goes on)")
-            } else {
-                print(out, b"stop (Q = 0 ends the run)")
-            }
+fn print_rule(out: &mut impl Write, limit: u64, transfer: Transfer) -> io::Result<()> {
+    match camac::qmode_of(transfer) {
+        QMode::Stop if camac::is_block_of(transfer) => {
+            write!(out, "stop (Q = 0 closes the block, the list goes on)")
         }
-        QMode::Ignore => print(out, b"ignore (a word is done whatever Q is)"),
-        QMode::Repeat => {
-            print(out, b"repeat (a word is tried until Q = 1; Q = 0 on try ")?;
-            print_number(out, limit)?;
-            print(out, b" ends the run)")
-        }
-        QMode::Scan => {
-            print(
-                out,
-                b"scan (Q = X = 1: next subaddress, else next station; past station 23 the run ends)",
-            )
-        }
+        QMode::Stop => write!(out, "stop (Q = 0 ends the run)"),
+        QMode::Ignore => write!(out, "ignore (a word is done whatever Q is)"),
+        QMode::Repeat => write!(
+            out,
+            "repeat (a word is tried until Q = 1; Q = 0 on try {limit} ends the run)"
+        ),
+        QMode::Scan => write!(
+            out,
+            "scan (Q = X = 1: next subaddress, else next station; past station 23 the run ends)"
+        ),
     }
 }
 
 // AD, and what it says of other errors. A scan asks for no X.
-fn print_ad(out: &mut impl Write, q: QMode, ad: bool) -> io::Result<()> {
-    if ad {
-        print(out, b"; AD = 1 (not ended by ")?;
+fn print_ad(out: &mut impl Write, qmode: QMode, ad: bool) -> io::Result<()> {
+    let ended = if ad {
+        "AD = 1 (not ended"
     } else {
-        print(out, b"; AD = 0 (ended by ")?;
-    }
-    if !qmodes::is_scan(q) {
-        print(out, b"X = 0, ")?;
-    }
-    print(
+        "AD = 0 (ended"
+    };
+    let no_x = if qmodes::is_scan(qmode) {
+        ""
+    } else {
+        "X = 0, "
+    };
+    writeln!(
         out,
-        b"a parity error, or a damaged command: ERR while X = 1)\n",
+        "; {ended} by {no_x}a parity error, or a damaged command: ERR while X = 1)"
     )
 }
 
@@ -180,42 +149,28 @@ pub(crate) fn print_parts(
     number: usize,
     first: u32,
 ) -> io::Result<()> {
-    let c = camac::command_in(first, 0);
-    let t = c.transfer;
-    print_column(out, place as u64, 7)?;
-    print_column(out, number as u64, 8)?;
-    print(out, b"  refused: transfer mode ")?;
-    print_number(out, camac::mode_in(first) as u64)?;
-    print(out, b", Q-mode ")?;
-    print_number(out, ((first >> 3) % 4) as u64)?;
-    print_address(out, camac::address_of(t))?;
-    if c.wide {
-        print(out, b", 24 bits")
-    } else {
-        print(out, b", 16 bits")
-    }
+    let Command { transfer, wide, .. } = camac::command_in(first, 0);
+    let mode = camac::mode_in(first);
+    let qmode = (first >> 3) % 4;
+    let to = Destination(camac::address_of(transfer));
+    let bits = bits_of(wide);
+    write!(
+        out,
+        "{place:>7}{number:>8}  refused: transfer mode {mode}, Q-mode {qmode}, {to}, {bits} bits"
+    )
 }
 
 // The second longword: none of a single's, the data of an inline write, or the count of a block.
-pub(crate) fn print_second(out: &mut impl Write, mode: u32, second: u32) -> io::Result<()> {
-    match mode {
-        0 => {
-            print(out, b", second longword ")?;
-            print_hex(out, second, 8)?;
-            print(out, b"h")
-        }
-        3 => {
-            print(out, b", data ")?;
-            print_hex(out, second, 8)?;
-            print(out, b"h")
-        }
+pub(crate) fn print_second(out: &mut impl Write, first: u32, second: u32) -> io::Result<()> {
+    match camac::command_in(first, second).transfer {
+        Transfer::Single(_, _) => write!(out, ", second longword {second:08X}h"),
+        Transfer::Inline(_, _, data) => write!(out, ", data {data:08X}h"),
         _ => {
-            print(out, b", count ")?;
-            print_plural(
+            let halfwords = (1 << 32) - u64::from(second);
+            write!(
                 out,
-                (1 << 32) - (second as u64),
-                b" halfword",
-                b" halfwords",
+                ", count {}",
+                plural(halfwords, "halfword", "halfwords")
             )
         }
     }

@@ -4,6 +4,7 @@
 
 mod ending;
 mod fields;
+mod listing;
 mod operations;
 mod refusals;
 mod replies;
@@ -11,124 +12,75 @@ mod text;
 mod visits;
 
 ghost use Rattle.std.specs.Prelude.{◌≤◌, length};
-ghost use Rattle.std.specs.Counts.{IsPrefixLen as CountsBytes};
 
 use crate::fields::{print_field, print_head, print_parts, print_second};
+use crate::listing::Listing;
 use crate::refusals::{print_field_refused, print_refused};
 use crate::replies::explain_run;
-use crate::text::{print, print_number, print_plural};
+use crate::text::plural;
 use crate::visits::print_walk;
-use base::Refusal;
-use listfile::{Checked, FieldRead};
-use std::fs::File;
-use std::io;
-use std::io::{BufWriter, Printer, Read, Write};
-use std::rt::Files;
-use walk::{Admission, Counts};
-
-// The most bytes that are read of a file, and those of the incoming buffer.
-const MOST_BYTES: usize = 65536;
-
-// A length that every list fits.
-const MOST: usize = 0xFFFFFFFFFFFFFFFF;
+use base::{Fault, Refused};
+use files::{MOST_BYTES, Rooms, RunFiles};
+use std::io::Write;
+use std::{fmt, io};
+use walk::Counts;
 
 // The place behind the first field.
 const FIRST: usize = 7;
 
 fn main(rt: HostRuntime) -> io::Result<()> {
-    let mut list = [0; MOST_BYTES];
-    let list_size = read_file(&rt, "run.lst", &mut list);
-    let mut replies = [0; MOST_BYTES];
-    let replies_size = read_file(&rt, "run.rep", &mut replies);
-    let mut outgoing = [0; MOST_BYTES];
-    let outgoing_size = read_file(&rt, "run.out", &mut outgoing);
-    let mut out = output(&rt);
-    print_full(&mut out, b"run.lst", list_size)?;
-    print_full(&mut out, b"run.rep", replies_size)?;
-    print_full(&mut out, b"run.out", outgoing_size)?;
-    explain(
-        &mut out,
-        &list[..list_size],
-        &replies[..replies_size],
-        &outgoing[..outgoing_size],
-    )?;
+    let mut rooms = Rooms::new();
+    let found = files::read_files(&rt, &mut rooms);
+    let mut out = files::output(&rt);
+    print_full(&mut out, "run.lst", found.list)?;
+    print_full(&mut out, "run.rep", found.replies)?;
+    print_full(&mut out, "run.out", found.outgoing)?;
+    explain(&mut out, found)?;
     out.flush()
 }
 
-// The bytes of a file at the start of a buffer: how many there are.
-fn read_file(rt: &impl Files, name: &str, bytes: &mut [u8]) -> usize
-    ensures { CountsBytes result bytes.new }
-{
-    match File::open(rt, name) {
-        Ok(mut file) => read_full(&mut file, bytes),
-        Err(_) => 0,
-    }
-}
-
-// The bytes up to the buffer's end, the file's, or a read that fails.
-fn read_full(file: &mut impl Read, bytes: &mut [u8]) -> usize
-    ensures { CountsBytes result bytes.new }
-{
-    let mut done = 0;
-    while done < bytes.len() {
-        let Ok(size) = file.read(&mut bytes[done..]) else {
-            break;
-        };
-        if size == 0 {
-            break;
-        }
-        done += size;
-    }
-    done
-}
-
-// The standard output behind a buffer, or behind none where there is no memory for one.
-fn output(rt: &HostRuntime) -> BufWriter<Printer<'_, HostRuntime>> {
-    match BufWriter::new(rt.alloc(), io::writer(rt)) {
-        Ok(out) => out,
-        Err(_) => BufWriter::with_capacity(rt.alloc(), 0, io::writer(rt)).unwrap(),
-    }
-}
-
 // A file of which the buffer holds no more.
-fn print_full(out: &mut impl Write, name: &[u8], size: usize) -> io::Result<()> {
-    if size == MOST_BYTES {
-        print(out, name)?;
-        print(out, b": 65536 bytes were read, and no more are\n")?;
+fn print_full(out: &mut impl Write, name: &str, bytes: &[u8]) -> io::Result<()> {
+    if bytes.len() == MOST_BYTES {
+        writeln!(out, "{name}: 65536 bytes were read, and no more are")?;
     }
     Ok(())
 }
 
 // The list; then, where its fields are right, its walk and its run.
-fn explain(out: &mut impl Write, list: &[u8], replies: &[u8], outgoing: &[u8]) -> io::Result<()> {
-    let mut table = [0u16; 4096];
+fn explain(out: &mut impl Write, found: RunFiles) -> io::Result<()> {
+    let list = found.list;
+    let mut table = [0; 4096];
     let checked = listfile::check_list(list, &mut table);
-    print(out, b"list of ")?;
-    print_plural(out, list.len() as u64, b" byte\n", b" bytes\n")?;
+    writeln!(
+        out,
+        "list of {}",
+        plural(list.len() as u64, "byte", "bytes")
+    )?;
     match checked {
-        Checked::Refused(r) => explain_refused(out, list, r),
-        Checked::Passed(sizes) => {
+        Ok(sizes) => {
             print_fields(out, list, list.len())?;
-            print_walk(out, list, &table, sizes)?;
-            explain_admitted(out, list, &table, replies, outgoing)
+            let listing = Listing {
+                list,
+                places: &table[..sizes.count],
+                limit: sizes.limit as u64,
+            };
+            print_walk(out, &listing)?;
+            explain_admitted(out, &listing, found.replies, found.outgoing)
         }
+        Err(refused) => explain_refused(out, list, refused),
     }
 }
 
 // A list that one of 1 to 10 refuses: the fields before its place, all of them with 10, and what is wrong.
-fn explain_refused(out: &mut impl Write, list: &[u8], r: Refusal) -> io::Result<()> {
-    let place = r.place;
-    if r.number == 10 {
-        let count = print_fields(out, list, list.len())?;
-        return print_field_refused(out, list, count, r);
-    }
-    let count = print_fields(
-        out,
-        list,
-        base::least(place as u64, list.len() as u64) as usize,
-    )?;
-    print_wrong_field(out, list, count, r)?;
-    print_field_refused(out, list, count, r)
+fn explain_refused(out: &mut impl Write, list: &[u8], refused: Refused) -> io::Result<()> {
+    let end = match refused.fault {
+        Fault::NoSuchTarget => list.len(),
+        _ => refused.place.min(list.len()),
+    };
+    let count = print_fields(out, list, end)?;
+    print_wrong_field(out, list, count, refused)?;
+    print_field_refused(out, list, count, refused)
 }
 
 // The fields from the first on that begin before a place: how many instructions they are.
@@ -136,17 +88,17 @@ fn print_fields(out: &mut impl Write, list: &[u8], end: usize) -> io::Result<usi
     requires { end ≤ length list.now }
 {
     let limit = base::short_at(list, 5) as u64;
-    let mut at: usize = FIRST;
-    let mut count: usize = 0;
+    let mut at = FIRST;
+    let mut count = 0;
     if 0 < end {
         print_head(out, limit)?;
     }
+    // Places and not numbers are counted: a field's length says where the next begins, as listfile's Reader finds it, which no other crate can name.
     while at < end {
-        let field = listfile::read_at(list, at, count);
-        let FieldRead::Read(i) = field else {
-            return Ok(count);
+        let Ok(instruction) = listfile::read_at(list, at, count) else {
+            break;
         };
-        print_field(out, at, count, limit, i)?;
+        print_field(out, at, count, limit, instruction)?;
         at = at + 3 + base::short_at(list, at + 1);
         count += 1;
     }
@@ -158,83 +110,90 @@ fn print_wrong_field(
     out: &mut impl Write,
     list: &[u8],
     count: usize,
-    r: Refusal,
+    refused: Refused,
 ) -> io::Result<()> {
-    let place = r.place;
-    if r.number < 6 {
+    if !matches!(
+        refused.fault,
+        Fault::ZeroBit | Fault::NoSuchAddress | Fault::WrongMode | Fault::WrongCount
+    ) {
         return Ok(());
     }
-    if list.len() <= place {
+    let place = refused.place;
+    let Some(field) = list.get(place..) else {
         return Ok(());
-    }
-    let first = base::long_at(list, place + 3);
+    };
+    let first = base::long_at(field, 3);
     print_parts(out, place, count, first)?;
-    if base::short_at(list, place + 1) == 8 {
-        print_second(out, camac::mode_in(first), base::long_at(list, place + 7))?;
+    if base::short_at(field, 1) == 8 {
+        print_second(out, first, base::long_at(field, 7))?;
     }
-    print(out, b"\n")
+    writeln!(out)
 }
 
 // Admission of a list whose fields are right, then its run.
 fn explain_admitted(
     out: &mut impl Write,
-    list: &[u8],
-    table: &[u16],
+    listing: &Listing,
     replies: &[u8],
     outgoing: &[u8],
 ) -> io::Result<()> {
-    let admission = walk::admit(list, MOST_BYTES, outgoing.len());
-    match admission {
-        Admission::Refused(r) => {
-            print_refused(out, r)?;
-            print_needed(out, list, r.number, outgoing.len())
+    match walk::admit(listing.list, MOST_BYTES, outgoing.len()) {
+        Ok(counts) => {
+            writeln!(out, "\nadmitted: {}", Bounds(counts))?;
+            explain_run(out, listing, counts, replies, outgoing)
         }
-        Admission::Admitted(counts) => {
-            print(out, b"\nadmitted:")?;
-            print_counts_of(out, counts)?;
-            explain_run(out, list, table, counts, replies, outgoing)
+        Err(refused) => {
+            print_refused(out, refused)?;
+            print_needed(out, listing.list, refused.fault, outgoing.len())
         }
     }
 }
 
 // W, B and O.
-fn print_counts_of(out: &mut impl Write, c: Counts) -> io::Result<()> {
-    print(out, b" W = ")?;
-    print_plural(
-        out,
-        c.worst,
-        b" operation at most, B = ",
-        b" operations at most, B = ",
-    )?;
-    print_plural(
-        out,
-        c.incoming,
-        b" byte stored at most, O = ",
-        b" bytes stored at most, O = ",
-    )?;
-    print_plural(
-        out,
-        c.outgoing,
-        b" byte taken at most\n",
-        b" bytes taken at most\n",
-    )
+#[derive(Clone, Copy)]
+struct Bounds(Counts);
+
+impl fmt::Display for Bounds {
+    fn fmt<W: fmt::Write>(&self, f: &mut fmt::Formatter<W>) -> fmt::Result {
+        let Counts {
+            worst,
+            incoming,
+            outgoing,
+        } = self.0;
+        let operations = plural(worst, "operation", "operations");
+        let stored = plural(incoming, "byte", "bytes");
+        let taken = plural(outgoing, "byte", "bytes");
+        write!(
+            f,
+            "W = {operations} at most, B = {stored} stored at most, O = {taken} taken at most"
+        )
+    }
 }
 
 // What 11, 20 and 21 expect.
-fn print_needed(out: &mut impl Write, list: &[u8], number: u8, outgoing: usize) -> io::Result<()> {
-    let admission = walk::admit(list, MOST, MOST);
-    let Admission::Admitted(counts) = admission else {
-        return print(
+fn print_needed(
+    out: &mut impl Write,
+    list: &[u8],
+    fault: Fault,
+    outgoing: usize,
+) -> io::Result<()> {
+    // Every list fits these lengths.
+    let Ok(counts) = walk::admit(list, usize::MAX, usize::MAX) else {
+        return writeln!(
             out,
-            b"  expected: a halt, reached before an instruction comes again or the last field is passed\n",
+            "  expected: a halt, reached before an instruction comes again or the last field is passed"
         );
     };
-    if number == 20 {
-        print(out, b"  expected: room for B bytes, where 65536 are here;")?;
+    let bounds = Bounds(counts);
+    if fault == Fault::ShortIncoming {
+        writeln!(
+            out,
+            "  expected: room for B bytes, where 65536 are here; {bounds}"
+        )
     } else {
-        print(out, b"  expected: O bytes, where run.out has ")?;
-        print_number(out, outgoing as u64)?;
-        print(out, b";")?;
+        writeln!(
+            out,
+            "  expected: O bytes, where run.out has {outgoing}; {bounds}"
+        )
     }
-    print_counts_of(out, counts)
 }

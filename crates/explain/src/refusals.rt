@@ -1,150 +1,111 @@
 // Refusals in words: what is wrong, the bytes at its place, what was expected.
-use crate::text::{print, print_number, print_some};
-use base::Refusal;
+use crate::text::Bytes;
+use base::{Fault, Refused};
+use camac::Transfer;
 use std::io;
 use std::io::Write;
 
 // The most bytes that are shown of a field: a head and two longwords.
-const SHOWN: u64 = 11;
+const SHOWN: usize = 11;
 
 // A refusal that has the place of a field.
 pub(crate) fn print_field_refused(
     out: &mut impl Write,
     list: &[u8],
     count: usize,
-    r: Refusal,
+    refused: Refused,
 ) -> io::Result<()> {
-    let place = r.place;
-    print_refused(out, r)?;
-    print(out, b"  the bytes there:")?;
-    print_some(out, list, place, shown_at(list, place))?;
-    print(out, b"\n  expected: ")?;
-    print_expected(out, list, count, r.number, place)?;
-    print(out, b"\n")
+    print_refused(out, refused)?;
+    let field = list.get(refused.place..).unwrap_or(&[]);
+    let shown = start_of(field);
+    if shown.is_empty() {
+        writeln!(out, "  the bytes there: none")?;
+    } else {
+        writeln!(out, "  the bytes there:{}", Bytes(shown))?;
+    }
+    write!(out, "  expected: {}", expected_of(refused.fault, field))?;
+    if refused.fault == Fault::NoSuchTarget {
+        write!(out, "{count}")?;
+    }
+    writeln!(out)
 }
 
-// The bytes that are shown of the field at a place.
-fn shown_at(list: &[u8], place: usize) -> usize {
-    if list.len() <= place {
-        return 0;
-    }
-    let size = 3 + base::short_at(list, place + 1);
-    base::least(size as u64, SHOWN) as usize
+// The bytes that are shown of a field, from which on the list is given.
+fn start_of(field: &[u8]) -> &[u8] {
+    let size = (3 + base::short_at(field, 1)).min(SHOWN);
+    &field[..size.min(field.len())]
 }
 
 // A refusal's number, place and words.
-pub(crate) fn print_refused(out: &mut impl Write, r: Refusal) -> io::Result<()> {
-    print(out, b"\nrefused ")?;
-    print_number(out, r.number as u64)?;
-    print(out, b", place ")?;
-    print_number(out, r.place as u64)?;
-    print(out, b": ")?;
-    print_reason(out, r.number)?;
-    print(out, b"\n")
+pub(crate) fn print_refused(out: &mut impl Write, refused: Refused) -> io::Result<()> {
+    let Refused { fault, place } = refused;
+    let reason = reason_of(fault);
+    writeln!(out, "\nrefused {}, place {place}: {reason}", fault.number())
 }
 
-fn print_reason(out: &mut impl Write, number: u8) -> io::Result<()> {
-    match number {
-        1 => print(out, b"a field runs past the end of the list"),
-        2 => print(out, b"the first field is missing or wrong"),
-        3 => print(out, b"unknown tag, or a second first field"),
-        4 => print(out, b"length wrong for its tag"),
-        5 => print(out, b"more than 4,096 instructions"),
-        6 => print(out, b"a bit that must be zero is set"),
-        7 => print(out, b"no such crate or station"),
-        8 => print(
-            out,
-            b"transfer mode does not go with its length, Q-mode, address or function",
-        ),
-        9 => print(out, b"wrong word count or inline data"),
-        10 => print(out, b"jump to no instruction"),
-        11 => print(out, b"the list comes to no halt"),
-        20 => print(out, b"incoming buffer too short"),
-        21 => print(out, b"outgoing buffer too short"),
-        22 => print(out, b"a reply is not well formed"),
-        _ => print(out, b"not of a list"),
+fn reason_of(fault: Fault) -> &'static str {
+    match fault {
+        Fault::PastEnd => "a field runs past the end of the list",
+        Fault::FirstField => "the first field is missing or wrong",
+        Fault::UnknownTag => "unknown tag, or a second first field",
+        Fault::WrongLength => "length wrong for its tag",
+        Fault::TooManyInstructions => "more than 4,096 instructions",
+        Fault::ZeroBit => "a bit that must be zero is set",
+        Fault::NoSuchAddress => "no such crate or station",
+        Fault::WrongMode => {
+            "transfer mode does not go with its length, Q-mode, address or function"
+        }
+        Fault::WrongCount => "wrong word count or inline data",
+        Fault::NoSuchTarget => "jump to no instruction",
+        Fault::NoHalt => "the list comes to no halt",
+        Fault::ShortIncoming => "incoming buffer too short",
+        Fault::ShortOutgoing => "outgoing buffer too short",
+        Fault::ReplyNotFormed => "a reply is not well formed",
+        _ => "not of a list",
     }
 }
 
 // What the field should have been.
-fn print_expected(
-    out: &mut impl Write,
-    list: &[u8],
-    count: usize,
-    number: u8,
-    place: usize,
-) -> io::Result<()> {
-    match number {
-        1 => print(
-            out,
-            b"a tag, a length of two bytes and a body of that length",
-        ),
-        2 => print(
-            out,
-            b"01 04 00 01 00, then R in two bytes, low byte first, 1 to 65,535",
-        ),
-        3 => print(
-            out,
-            b"tag 10h (CAMAC), 20h (jump), 21h (literal) or 2Fh (halt)",
-        ),
-        4 => print(
-            out,
-            b"length 4 or 8 for tag 10h (CAMAC), 2 for 20h (jump), 4 for 21h (literal), 0 for 2Fh (halt)",
-        ),
-        5 => print(out, b"the end of the list"),
-        6 => print(
-            out,
-            b"bits 31, 30, 15, 14, 7 and 2 of the first longword zero",
-        ),
-        7 => print(
-            out,
-            b"crate 1 to 62; N 1 to 23, or 30 where the Q-mode is not scan",
-        ),
-        8 => print_mode_expected(out, mode_at(list, place)),
-        9 => print_second_expected(out, mode_at(list, place)),
-        _ => {
-            print(
-                out,
-                b"the number of an instruction of this list, less than ",
-            )?;
-            print_number(out, count as u64)
+fn expected_of(fault: Fault, field: &[u8]) -> &'static str {
+    match fault {
+        Fault::PastEnd => "a tag, a length of two bytes and a body of that length",
+        Fault::FirstField => "01 04 00 01 00, then R in two bytes, low byte first, 1 to 65,535",
+        Fault::UnknownTag => "tag 10h (CAMAC), 20h (jump), 21h (literal) or 2Fh (halt)",
+        Fault::WrongLength => {
+            "length 4 or 8 for tag 10h (CAMAC), 2 for 20h (jump), 4 for 21h (literal), 0 for 2Fh (halt)"
         }
+        Fault::TooManyInstructions => "the end of the list",
+        Fault::ZeroBit => "bits 31, 30, 15, 14, 7 and 2 of the first longword zero",
+        Fault::NoSuchAddress => "crate 1 to 62; N 1 to 23, or 30 where the Q-mode is not scan",
+        Fault::WrongMode => mode_expected(transfer_in(field)),
+        Fault::WrongCount => second_expected(transfer_in(field)),
+        _ => "the number of an instruction of this list, less than ",
     }
 }
 
-// The transfer mode of the CAMAC field at a place, bits 6 and 5 of its first byte.
-fn mode_at(list: &[u8], place: usize) -> u8 {
-    if list.len() <= place {
-        return 0;
-    }
-    base::byte_at(list, place + 3) / 32 % 4
+// The transfer of a CAMAC field's first longword.
+fn transfer_in(field: &[u8]) -> Transfer {
+    camac::command_in(base::long_at(field, 3), 0).transfer
 }
 
 // What goes with a transfer mode.
-fn print_mode_expected(out: &mut impl Write, mode: u8) -> io::Result<()> {
-    match mode {
-        0 => print(out, b"length 4 for a single"),
-        1 => print(out, b"length 8 and a read or write function for a block"),
-        2 => {
-            print(
-                out,
-                b"length 8 for an enhanced block; in stop and ignore a read or write function, in repeat a read function, ",
-            )?;
-            print(out, b"in Q-mode 3 (list sequencer) N 30, F 12, A 0 to 3")
+fn mode_expected(transfer: Transfer) -> &'static str {
+    match transfer {
+        Transfer::Single(_, _) => "length 4 for a single",
+        Transfer::Block(_, _, _) => "length 8 and a read or write function for a block",
+        Transfer::Enhanced(_, _, _) => {
+            "length 8 for an enhanced block; in stop and ignore a read or write function, in repeat a read function, in Q-mode 3 (list sequencer) N 30, F 12, A 0 to 3"
         }
-        _ => print(out, b"length 8 and a write function for an inline write"),
+        Transfer::Inline(_, _, _) => "length 8 and a write function for an inline write",
     }
 }
 
 // What the second longword has to be.
-fn print_second_expected(out: &mut impl Write, mode: u8) -> io::Result<()> {
-    if mode == 3 {
-        print(out, b"data that fits the word size")
-    } else {
-        print(
-            out,
-            b"the two's complement of 1 to 65,536 halfwords, an even number for words of 24 bits, ",
-        )?;
-        print(out, b"in scan at most (23 - N) x 16 + 16 - A words")
+fn second_expected(transfer: Transfer) -> &'static str {
+    match transfer {
+        Transfer::Inline(_, _, _) => "data that fits the word size",
+        _ => {
+            "the two's complement of 1 to 65,536 halfwords, an even number for words of 24 bits, in scan at most (23 - N) x 16 + 16 - A words"
+        }
     }
 }

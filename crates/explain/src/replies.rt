@@ -1,12 +1,12 @@
 // The run over a row of replies, in words.
-use crate::MOST_BYTES;
 use crate::ending::{print_counts, print_end, print_last, print_status, print_used_bytes};
-use crate::operations::{Stretch, event_of, gathered, no_stretch, print_stretch};
+use crate::listing::Listing;
+use crate::operations::{Stretch, event_of, gathered, print_stretch};
 use crate::refusals::print_refused;
-use crate::text::{print, print_number, print_plural, print_some};
-use base::Refusal;
-use calls::{NOT_FORMED, Operation};
-use reply::{Formed, Record};
+use crate::text::{Bytes, plural};
+use base::Fault;
+use calls::Yield;
+use files::MOST_BYTES;
 use std::io;
 use std::io::Write;
 use walk::Counts;
@@ -14,122 +14,92 @@ use walk::Counts;
 // Where a run came to, the operation that it wants next, and its last operations, which are not printed yet.
 #[derive(Clone, Copy)]
 struct Told {
-    ended: bool,
-    run: Record,
-    wanted: Operation,
-    stretch: Stretch,
+    came: Yield,
+    stretch: Option<Stretch>,
 }
 
-// The place of the first reply that is not well formed, or of the bytes left over behind the last; else the length of the row.
-fn first_wrong(replies: &[u8]) -> usize {
-    let mut left = replies.len() / 8;
-    let mut at: usize = 0;
-    while 0 < left {
-        let end = at + 8;
-        let formed = reply::reply_of(&replies[at..end]);
-        let Formed::Reply(_) = formed else {
-            return at;
-        };
-        at = end;
-        left -= 1;
-    }
-    at
+// The first reply that is not well formed, or the bytes left over behind the last: its number and its bytes.
+fn first_wrong(replies: &[u8]) -> Option<(usize, &[u8])> {
+    replies
+        .chunks(8)
+        .enumerate()
+        .find(|(_, reply)| reply::reply_of(reply).is_none())
 }
 
 // A row with a reply that is not well formed.
-fn print_wrong(out: &mut impl Write, replies: &[u8], at: usize) -> io::Result<()> {
-    let refusal = Refusal {
-        number: NOT_FORMED,
-        place: 0,
-    };
-    print_refused(out, refusal)?;
-    print(out, b"  the bytes of reply ")?;
-    print_number(out, (at / 8) as u64)?;
-    print(out, b", counted from 0:")?;
-    print_some(out, replies, at, 8)?;
-    print(
+fn print_wrong(out: &mut impl Write, number: usize, reply: &[u8]) -> io::Result<()> {
+    print_refused(out, Fault::ReplyNotFormed.into())?;
+    writeln!(
         out,
-        b"\n  expected: eight bytes; kind 0 to 3; flags 0 to 3Fh; two zero bytes; three of data; a zero byte; ",
+        "  the bytes of reply {number}, counted from 0:{}",
+        Bytes(reply)
     )?;
-    print(out, b"of kinds 1 to 3 all others zero\n")
+    writeln!(
+        out,
+        "  expected: eight bytes; kind 0 to 3; flags 0 to 3Fh; two zero bytes; three of data; a zero byte; of kinds 1 to 3 all others zero"
+    )
 }
 
 // One reply taken, and told with those like it.
 fn take(
     out: &mut impl Write,
-    list: &[u8],
-    table: &[u16],
-    from: Told,
+    listing: &Listing,
+    told: Told,
     incoming: &mut [u8],
     outgoing: &[u8],
     reply: &[u8],
 ) -> io::Result<Told> {
-    let r = from.run;
-    let wanted = from.wanted;
-    let stretch = from.stretch;
-    let next = step::step(list, r, incoming, outgoing, reply);
-    let after = next.run;
-    let e = event_of(r, wanted, reply, after);
-    let more = gathered(out, list, table, stretch, e)?;
-    let wanted_next = next.wanted;
-    Ok(Told {
-        ended: after.ended,
-        run: after,
-        wanted: wanted_next,
-        stretch: more,
-    })
-}
-
-// Start, to the first operation or the end.
-fn begin(list: &[u8], incoming: &mut [u8], outgoing: &[u8]) -> Told {
-    let first = step::start(list, incoming, outgoing);
-    let r = first.run;
-    let wanted = first.wanted;
-    Told {
-        ended: r.ended,
-        run: r,
-        wanted: wanted,
-        stretch: no_stretch(r, wanted),
+    let (Some(made), Some(answer)) = (told.came.wanted, reply::reply_of(reply)) else {
+        return Ok(told);
+    };
+    let before = told.came.run;
+    match step::step(listing.list, before, incoming, outgoing, reply) {
+        Ok(came) => {
+            let event = event_of(before, made, answer, came.run);
+            let stretch = Some(gathered(out, listing, told.stretch, event)?);
+            Ok(Told { came, stretch })
+        }
+        Err(refused) => {
+            print_refused(out, refused)?;
+            let came = Yield {
+                wanted: None,
+                ..told.came
+            };
+            Ok(Told { came, ..told })
+        }
     }
 }
 
-// Start, then a step for each reply until the run has ended or the replies run out.
+// From the start a step for each reply, until the run has ended or the replies run out.
 fn run_over(
     out: &mut impl Write,
-    list: &[u8],
-    table: &[u16],
+    listing: &Listing,
+    came: Yield,
     replies: &[u8],
     incoming: &mut [u8],
     outgoing: &[u8],
 ) -> io::Result<Told> {
-    let mut here = begin(list, incoming, outgoing);
-    let mut left = replies.len() / 8;
-    let mut at: usize = 0;
-    while 0 < left {
-        if here.ended {
+    let mut told = Told {
+        came,
+        stretch: None,
+    };
+    for reply in replies.chunks_exact(8) {
+        if told.came.wanted.is_none() {
             break;
         }
-        let end = at + 8;
-        here = take(
-            out,
-            list,
-            table,
-            here,
-            incoming,
-            outgoing,
-            &replies[at..end],
-        )?;
-        at = end;
-        left -= 1;
+        told = take(out, listing, told, incoming, outgoing, reply)?;
     }
-    Ok(here)
+    Ok(told)
 }
 
 // Replies behind the run's end.
 fn print_left(out: &mut impl Write, n: u64) -> io::Result<()> {
     if 0 < n {
-        print(out, b"  behind the end: ")?;
-        print_plural(out, n, b" reply, not taken\n", b" replies, not taken\n")?;
+        writeln!(
+            out,
+            "  behind the end: {}, not taken",
+            plural(n, "reply", "replies")
+        )?;
     }
     Ok(())
 }
@@ -137,31 +107,31 @@ fn print_left(out: &mut impl Write, n: u64) -> io::Result<()> {
 // The run of an admitted list.
 pub(crate) fn explain_run(
     out: &mut impl Write,
-    list: &[u8],
-    table: &[u16],
+    listing: &Listing,
     counts: Counts,
     replies: &[u8],
     outgoing: &[u8],
 ) -> io::Result<()> {
-    let wrong = first_wrong(replies);
-    if wrong < replies.len() {
-        return print_wrong(out, replies, wrong);
+    if let Some((number, reply)) = first_wrong(replies) {
+        return print_wrong(out, number, reply);
     }
-    print(out, b"\nrun over ")?;
-    print_plural(out, (replies.len() / 8) as u64, b" reply\n", b" replies\n")?;
-    let mut space = [0; MOST_BYTES];
-    let incoming: &mut [u8] = &mut space;
-    let last = run_over(out, list, table, replies, incoming, outgoing)?;
-    let r = last.run;
-    let stretch = last.stretch;
-    let latest = stretch.last;
-    print_stretch(out, list, table, stretch)?;
-    print_end(out, r, last.wanted, latest.kind)?;
-    print_counts(out, r, counts)?;
-    print_status(out, r.status)?;
-    print_last(out, incoming, outgoing, r.note)?;
-    let marks = r.marks;
-    print_used_bytes(out, b"  incoming buffer:", incoming, marks.incoming)?;
-    print_used_bytes(out, b"  outgoing buffer:", outgoing, marks.outgoing)?;
-    print_left(out, base::less((replies.len() / 8) as u64, r.operations))
+    let given = (replies.len() / 8) as u64;
+    writeln!(out, "\nrun over {}", plural(given, "reply", "replies"))?;
+    // On the stack, as every buffer here: what is printed never hangs on memory.
+    let mut incoming = [0; MOST_BYTES];
+    let first = match step::start(listing.list, &mut incoming, outgoing) {
+        Ok(first) => first,
+        Err(refused) => return print_refused(out, refused),
+    };
+    let Told { came, stretch } = run_over(out, listing, first, replies, &mut incoming, outgoing)?;
+    let Yield { run, wanted } = came;
+    print_stretch(out, listing, stretch)?;
+    print_end(out, run, wanted, stretch.map(|stretch| stretch.reply()))?;
+    print_counts(out, run, counts)?;
+    print_status(out, run.status)?;
+    print_last(out, &incoming, outgoing, run.note)?;
+    let marks = run.marks;
+    print_used_bytes(out, "incoming", &incoming, marks.incoming)?;
+    print_used_bytes(out, "outgoing", outgoing, marks.outgoing)?;
+    print_left(out, given.saturating_sub(run.operations))
 }

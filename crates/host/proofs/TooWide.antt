@@ -2,14 +2,22 @@
 -- numbers that are no record's are.
 use Prim.Native.Nat.{ℕ, ◌≤◌}
 use mathlib.Core.Path.{◌≡◌, refl, ap}
-use mathlib.Core.Bool.{Bool, true, false, ◌&&◌}
+use mathlib.Core.Bool.{Bool, true, false, ◌&&◌, and-true}
 use mathlib.Core.List.{List, [], ◌∷◌}
 use borrow.Author.Tests.{leb-true}
-use lib.Dec.{leb}
+use lib.Dec.{leb, eqb}
 use lib.ListN.{length, get_or}
 use Rattle.base.proofs.Bools.{and_left, and_right}
 use Rattle.base.proofs.Tests.{on}
-use Rattle.base.specs.declared.Refusal.{Refusal}
+use Rattle.std.specs.Prelude.{Result, Ok, Err}
+use Rattle.std.specs.Prelude.{MatchResult, IsOkAnd}
+use Rattle.base.specs.Refusals.{number_of, refusal_of}
+use Rattle.base.specs.Refusals.{Refusal}
+use Rattle.base.specs.declared.refusals.Fault.{Fault}
+use Rattle.base.specs.declared.refusals.Refused.{Refused}
+use Rattle.base.proofs.Faults.{number_above}
+use Rattle.std.proofs.lemmas.Bool.{ne_eqb}
+use native.Mathlib.Omega.{arith}
 use Rattle.listfile.specs.declared.field.Instruction.{Instruction}
 use Rattle.listfile.specs.declared.field.Instruction.TheVariants.{Camac, Jump, Literal, Halt}
 use Rattle.packing.specs.declared.Marks.{Marks}
@@ -18,11 +26,18 @@ use Rattle.walk.specs.Admission.{Plan, Prepared, unfit, ready, prepare}
 use Rattle.reply.specs.Effect.{State, state_of, zero_record}
 use Rattle.reply.specs.declared.records.Record.{Record}
 use Rattle.calls.specs.Fit.{fits_at, fits_from, fits}
-use Rattle.calls.specs.Calls.{Called, refused_call, step_prepared, step_of, Yields, Stepping, refused_steps, steps_prepared, steps_of, Steps}
+use Rattle.calls.specs.Calls.{Called, refused_call, step_prepared, step_of, run_in, wanted_in, Yields, Stepping, refused_steps, steps_prepared, steps_of, steps_taken, steps_run, steps_wanted, Steps}
 use Rattle.calls.specs.declared.Yield.{Yield}
 use Rattle.calls.specs.declared.Stepped.{Stepped}
 use Rattle.host.specs.Numbers.{call_numbers, steps_numbers, ended_in, is_narrow, Leaving, refused_by, no_record, step_by_numbers, steps_by_numbers}
-use Rattle.host.specs.model.Given.{record_or, numbers_after}
+use Rattle.host.specs.model.Given.{record_or, numbers_after, numbers_by, run_by}
+
+-- `map` of a call's answer, by a closure that gives its record
+pub run_mapped : {Y : Type 0} (run : Y → Record) (post : Y → Record → Type 0) (y : Result Y Refused) (z : Result Record Refused)
+    → MatchResult y (λ x. IsOkAnd z (post x)) (λ e. z ≡ Err e) → ((x : Y) (v : Record) → post x v → v ≡ run x) → z ≡ run_by run y
+run_mapped run post (Ok x) (Ok v) m gives = ap Ok (gives x v m)
+run_mapped run post (Ok x) (Err e) m gives = absurd m
+run_mapped run post (Err e) z m gives = m
 
 -- what narrow numbers are
 pub record Narrow (n : List ℕ) : Type 0 where
@@ -75,6 +90,14 @@ steps_unfit (unfit r) b list row incoming outgoing = refl
 steps_unfit (ready p) true list row incoming outgoing = refl
 steps_unfit (ready p) false list row incoming outgoing = rw (zero_unfit p)
 
+none_both : (b : Bool) → b && false ≡ false
+none_both true = refl
+none_both false = refl
+
+-- a fault's number is not 0
+no_zero : (f : Fault) → eqb (number_of f) 0 ≡ false
+no_zero f = ne_eqb (number_of f) 0 (λ e. omega (arith, number_above f, e))
+
 -- what code leaves of a call
 abbrev left : List ℕ → List ℕ → Refusal → State → Leaving
 left given answer r s =
@@ -104,16 +127,26 @@ module _ (list given incoming outgoing : List ℕ) where
     abbrev leaving : Leaving
     leaving = record { answer = answer; run = run; incoming = i; outgoing = o }
 
-    pub step_leaves : (reply : List ℕ) (y : Yield) → Yields (step_of list (state_of r incoming outgoing) reply) y i o
-        → answer ≡ call_numbers y.refusal y.wanted
-        → run ≡ numbers_after given y.refusal y.run → leaving ≡ step_by_numbers list given incoming outgoing reply
+    pub step_leaves : (reply : List ℕ) (y : Result Yield Refused) → Yields (step_of list (state_of r incoming outgoing) reply) r y i o
+        → answer ≡ call_numbers (refusal_of y) (wanted_in y)
+        → run ≡ numbers_by given (run_by (λ (y : Yield). y.run) y) → leaving ≡ step_by_numbers list given incoming outgoing reply
     step_leaves reply y yields ea en =
-        rw (ea, en, yields.answer, yields.incoming_bytes, yields.outgoing_bytes)
+        let same : numbers_by given (run_by (λ (y : Yield). y.run) y) ≡ numbers_after given (refusal_of y) (run_in r y) = call_left y in
+        rw (ea, en, same, yields.refusal, yields.run, yields.wanted, yields.incoming_bytes, yields.outgoing_bytes)
         (step_by reply _ (ap (λ (r : Record). step_of list (state_of r incoming outgoing) reply) er))
+      where
+        call_left : (y : Result Yield Refused) → numbers_by given (run_by (λ (y : Yield). y.run) y) ≡ numbers_after given (refusal_of y) (run_in r y)
+        call_left (Ok y) = rw and-true
+        call_left (Err q) = rw (no_zero q.fault) (rw (none_both (is_narrow given)))
 
-    pub steps_leave : (row : List ℕ) (y : Stepped) → Steps (steps_of list (state_of r incoming outgoing) row) y i o
-        → answer ≡ steps_numbers y.refusal y.taken y.wanted
-        → run ≡ numbers_after given y.refusal y.run → leaving ≡ steps_by_numbers list given incoming outgoing row
+    pub steps_leave : (row : List ℕ) (y : Result Stepped Refused) → Steps (steps_of list (state_of r incoming outgoing) row) r y i o
+        → answer ≡ steps_numbers (refusal_of y) (steps_taken y) (steps_wanted y)
+        → run ≡ numbers_by given (run_by (λ (y : Stepped). y.run) y) → leaving ≡ steps_by_numbers list given incoming outgoing row
     steps_leave row y steps ea en =
-        rw (ea, en, steps.answer, steps.incoming_bytes, steps.outgoing_bytes)
+        let same : numbers_by given (run_by (λ (y : Stepped). y.run) y) ≡ numbers_after given (refusal_of y) (steps_run r y) = steps_left y in
+        rw (ea, en, same, steps.refusal, steps.taken, steps.run, steps.wanted, steps.incoming_bytes, steps.outgoing_bytes)
         (steps_by row _ (ap (λ (r : Record). steps_of list (state_of r incoming outgoing) row) er))
+      where
+        steps_left : (y : Result Stepped Refused) → numbers_by given (run_by (λ (y : Stepped). y.run) y) ≡ numbers_after given (refusal_of y) (steps_run r y)
+        steps_left (Ok y) = rw and-true
+        steps_left (Err q) = rw (no_zero q.fault) (rw (none_both (is_narrow given)))

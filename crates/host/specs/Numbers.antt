@@ -1,18 +1,15 @@
 -- The calls by numbers, as a host in C is given them (admission and the whole run by document 01; start, step and several replies are ours beside
 -- them). A record is its thirteen numbers in document 01's order. Admission's numbers are `numbers_of` of the crate walk.
-use Rattle.std.specs.Prelude.{ℕ, Bool, not, ◌&&◌, List, [], ◌∷◌, ◌++◌, leb, eqb, length, get_or, if◌then◌else◌}
-use Rattle.std.proofs.Math.Option.{Option, none, some}
+use Rattle.std.specs.Prelude.{ℕ, Bool, not, ◌&&◌, Option, Some, None, List, [], ◌∷◌, ◌++◌, leb, eqb, length, get_or, if◌then◌else◌}
 use Rattle.base.specs.Refusals.{refusal}
-use Rattle.base.specs.declared.Refusal.{Refusal}
+use Rattle.base.specs.Refusals.{Refusal}
 use Rattle.walk.specs.Admission.{Prepared, unfit, ready, prepare}
 use Rattle.reply.specs.Effect.{State, state_of}
 use Rattle.reply.specs.declared.records.Record.{Record}
-use Rattle.calls.specs.Calls.{number_of, record_numbers, no_operation, Called, Stepping, start_of, step_of, steps_of}
+use Rattle.calls.specs.Calls.{number_of, record_numbers, no_operation, Called, RunThrough, Stepping, start_of, step_of, steps_of}
 use Rattle.calls.specs.declared.operations.Operation.{Operation}
-use Rattle.calls.specs.declared.Ran.{Ran}
-use Rattle.demands.specs.declared.Queued.{Queued}
-use Rattle.demands.specs.declared.Next.{Next}
-use Rattle.demands.specs.declared.Next.TheVariants.{Nothing, Oldest}
+use Rattle.demands.specs.declared.Demand.{Demand}
+use Rattle.demands.specs.Demands.{Queued}
 
 -- Answers ------------------------------------------------------------------------------------------------------------------
 
@@ -24,16 +21,19 @@ refusal_numbers r = r.number ∷ r.place ∷ []
 abbrev pub queued_numbers : Queued → List ℕ
 queued_numbers r = r.refusal.number ∷ r.refusal.place ∷ r.waiting ∷ number_of r.overflow ∷ []
 
-abbrev pub next_numbers : Next → List ℕ
-next_numbers Nothing = 0 ∷ 0 ∷ 0 ∷ []
-next_numbers (Oldest d) = 1 ∷ d.crate_number ∷ d.sgl ∷ []
+abbrev pub next_numbers : Option Demand → List ℕ
+next_numbers None = 0 ∷ 0 ∷ 0 ∷ []
+next_numbers (Some d) = 1 ∷ d.crate_number ∷ d.sgl ∷ []
 
-abbrev pub taken_numbers : Queued → Next → List ℕ
+abbrev pub taken_numbers : Queued → Option Demand → List ℕ
 taken_numbers r next = queued_numbers r ++ next_numbers next
 
 -- "A host in C calls admission and the whole run": of it number, place, the replies taken, then the record
-abbrev pub run_numbers : Ran → List ℕ
-run_numbers r = r.refusal.number ∷ r.refusal.place ∷ r.taken ∷ record_numbers r.run
+abbrev pub ran_numbers : Refusal → ℕ → Record → List ℕ
+ran_numbers r taken run = r.number ∷ r.place ∷ taken ∷ record_numbers run
+
+abbrev pub run_numbers : RunThrough → List ℕ
+run_numbers x = ran_numbers x.refusal x.taken x.state.run
 
 -- "the operation wanted next: crate, N, A, F and data"; "a sixth number, 1 if enhanced, else 0" (E1)
 abbrev pub wanted_numbers : Operation → List ℕ
@@ -72,7 +72,7 @@ record_with n = record {
 
 -- none where a number is too wide for its part
 abbrev pub record_in : List ℕ → Option Record
-record_in n = if is_narrow n then some (record_with n) else none
+record_in n = if is_narrow n then Some (record_with n) else None
 
 -- What a call leaves -------------------------------------------------------------------------------------------------------
 
@@ -117,9 +117,9 @@ abbrev pub stepped : List ℕ → Called → Leaving
 stepped given c = left_by given (call_numbers c.refusal c.wanted) c.refusal c.state
 
 abbrev pub step_with : Option Record → List ℕ → List ℕ → List ℕ → List ℕ → List ℕ → Leaving
-step_with none list given incoming outgoing reply =
+step_with None list given incoming outgoing reply =
     refused_by given (call_numbers (no_record (prepare list (length incoming) (length outgoing)) (ended_in given)) no_operation) incoming outgoing
-step_with (some r) list given incoming outgoing reply = stepped given (step_of list (state_of r incoming outgoing) reply)
+step_with (Some r) list given incoming outgoing reply = stepped given (step_of list (state_of r incoming outgoing) reply)
 
 unfoldable pub step_by_numbers : List ℕ → List ℕ → List ℕ → List ℕ → List ℕ → Leaving
 step_by_numbers list given incoming outgoing reply = step_with (record_in given) list given incoming outgoing reply
@@ -130,9 +130,9 @@ abbrev pub several_stepped : List ℕ → Stepping → Leaving
 several_stepped given x = left_by given (steps_numbers x.refusal x.taken x.wanted) x.refusal x.state
 
 abbrev pub steps_with : Option Record → List ℕ → List ℕ → List ℕ → List ℕ → List ℕ → Leaving
-steps_with none list given incoming outgoing row =
+steps_with None list given incoming outgoing row =
     refused_by given (steps_numbers (no_record (prepare list (length incoming) (length outgoing)) (ended_in given)) 0 no_operation) incoming outgoing
-steps_with (some r) list given incoming outgoing row = several_stepped given (steps_of list (state_of r incoming outgoing) row)
+steps_with (Some r) list given incoming outgoing row = several_stepped given (steps_of list (state_of r incoming outgoing) row)
 
 unfoldable pub steps_by_numbers : List ℕ → List ℕ → List ℕ → List ℕ → List ℕ → Leaving
 steps_by_numbers list given incoming outgoing row = steps_with (record_in given) list given incoming outgoing row

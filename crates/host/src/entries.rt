@@ -1,6 +1,6 @@
 // The entry points: admission, start, step, several replies and the whole run.
 ghost use Rattle.std.specs.Prelude.{◌≡◌};
-ghost use Rattle.calls.specs.Calls.{run_of, ran_of};
+ghost use Rattle.calls.specs.Calls.{run_of};
 ghost use Rattle.walk.specs.Admission.{admit_of, numbers_of};
 ghost use Rattle.host.specs.Numbers.{run_numbers, start_by_numbers, step_by_numbers, steps_by_numbers};
 
@@ -29,7 +29,7 @@ pub extern "C" fn camlist_run_v2(
     replies: &[u8],
     answer: &mut [u64; 16],
 )
-    ensures answer { answer.new ≡ run_numbers (ran_of (run_of list.now incoming.old outgoing.now replies.now)) }
+    ensures answer { answer.new ≡ run_numbers (run_of list.now incoming.old outgoing.now replies.now) }
     ensures incoming { incoming.new ≡ (run_of list.now incoming.old outgoing.now replies.now).state.incoming }
     ensures outgoing { outgoing.now ≡ (run_of list.now incoming.old outgoing.now replies.now).state.outgoing }
 {
@@ -49,9 +49,9 @@ pub extern "C" fn camlist_start_v2(
     ensures incoming { incoming.new ≡ (start_by_numbers list.now incoming.old outgoing.now).incoming }
     ensures outgoing { outgoing.now ≡ (start_by_numbers list.now incoming.old outgoing.now).outgoing }
 {
-    let y = step::start(list, incoming, outgoing);
-    *record = record_numbers(y.run);
-    *answer = call_numbers(y.refusal, y.wanted);
+    let outcome = step::start(list, incoming, outgoing);
+    *record = record_numbers(outcome.map_or(reply::zero_record(true), |y| y.run));
+    *answer = call_numbers(outcome);
 }
 
 #[unsafe(no_mangle)]
@@ -69,9 +69,9 @@ pub extern "C" fn camlist_step_v2(
     ensures outgoing { outgoing.now ≡ (step_by_numbers list.now «record».old incoming.old outgoing.now reply.now).outgoing }
 {
     let given = *record;
-    let y = step::step(list, record_of(given), incoming, outgoing, reply);
-    *record = numbers_after(given, y.refusal, y.run);
-    *answer = call_numbers(y.refusal, y.wanted);
+    let outcome = step::step(list, record_of(given), incoming, outgoing, reply);
+    *record = numbers_after(given, outcome.map(|y| y.run));
+    *answer = call_numbers(outcome);
 }
 
 #[unsafe(no_mangle)]
@@ -89,7 +89,7 @@ pub extern "C" fn camlist_steps_v2(
     ensures outgoing { outgoing.now ≡ (steps_by_numbers list.now «record».old incoming.old outgoing.now replies.now).outgoing }
 {
     let given = *record;
-    let y = whole_run::steps(list, record_of(given), incoming, outgoing, replies);
-    *record = numbers_after(given, y.refusal, y.run);
-    *answer = steps_numbers(y.refusal, y.taken, y.wanted);
+    let outcome = whole_run::steps(list, record_of(given), incoming, outgoing, replies);
+    *record = numbers_after(given, outcome.map(|y| y.run));
+    *answer = steps_numbers(outcome);
 }

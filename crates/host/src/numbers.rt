@@ -1,104 +1,110 @@
 // Answers and records as rows of numbers.
-ghost use Rattle.std.specs.Prelude.{◌≡◌};
-ghost use Rattle.calls.specs.Calls.{number_of, record_numbers};
+ghost use Rattle.std.specs.Prelude.{◌≡◌, ◌≤◌, ◌∷◌, ◌-◌, replicate};
+ghost use Rattle.base.specs.Refusals.{refusal_of, number_of};
+ghost use Rattle.calls.specs.Calls.{record_numbers, operation_or_none, taken_in, ran_run, wanted_in, steps_taken, steps_wanted};
+ghost use Rattle.walk.specs.model.Sums.{admitted_by};
 ghost use Rattle.walk.specs.Admission.{numbers_of};
-ghost use Rattle.host.specs.Numbers.{refusal_numbers, queued_numbers, taken_numbers, run_numbers, call_numbers, steps_numbers, is_narrow};
-ghost use Rattle.host.specs.model.Given.{record_or, numbers_after};
+ghost use Rattle.demands.specs.model.Answers.{answer_of, taken_answer_of, next_of};
+ghost use Rattle.host.specs.Numbers.{refusal_numbers, queued_numbers, next_numbers, taken_numbers, ran_numbers, wanted_numbers, call_numbers, steps_numbers, is_narrow};
+ghost use Rattle.host.specs.model.Given.{record_or, numbers_by};
 
-use base::Refusal;
-use calls::{Operation, Ran};
-use demands::{Next, Queued, Taken};
+use base::Refused;
+use calls::{Operation, Ran, Stepped, Yield};
+use demands::{Demand, Queued, Taken};
 use packing::Marks;
 use qmodes::ScanPosition;
 use reply::{Note, Record};
-use walk::{Admission, Spot};
+use walk::{Counts, Spot};
 
-pub fn refusal_numbers(r: Refusal) -> [u64; 2]
-    ensures { result ≡ refusal_numbers r }
+// Number and place of a refusal; zeros where there is none.
+pub fn refusal_numbers(outcome: Result<(), Refused>) -> [u64; 2]
+    ensures { result ≡ refusal_numbers (refusal_of outcome) }
 {
-    [r.number as u64, r.place as u64]
+    match outcome {
+        Ok(()) => [0, 0],
+        Err(r) => [u64::from(r.fault.number()), r.place as u64],
+    }
 }
 
-pub fn queued_numbers(r: Queued) -> [u64; 4]
-    ensures { result ≡ queued_numbers r }
+// Number and place of a refusal, and zeros in the places behind.
+fn refused_numbers<const N: usize>(r: Refused) -> [u64; N]
+    requires { 2 ≤ N }
+    ensures { result ≡ number_of r.fault ∷ r.place ∷ replicate (N - 2) 0 }
 {
-    let refusal = r.refusal;
-    [
-        refusal.number as u64,
-        refusal.place as u64,
-        r.waiting as u64,
-        number_of(r.overflow),
-    ]
+    let mut n = [0; N];
+    n[0] = u64::from(r.fault.number());
+    n[1] = r.place as u64;
+    n
 }
 
-pub fn taken_numbers(t: Taken) -> [u64; 7]
-    ensures { result ≡ taken_numbers t.queued t.next }
+pub fn queued_numbers(outcome: Result<Queued, Refused>) -> [u64; 4]
+    ensures { result ≡ queued_numbers (answer_of outcome) }
 {
-    let n = queued_numbers(t.queued);
-    let next = t.next;
+    match outcome {
+        Ok(q) => [0, 0, q.waiting as u64, u64::from(q.overflow)],
+        Err(r) => refused_numbers(r),
+    }
+}
+
+fn next_numbers(next: Option<Demand>) -> [u64; 3]
+    ensures { result ≡ next_numbers next }
+{
     match next {
-        Next::Nothing => [n[0], n[1], n[2], n[3], 0, 0, 0],
-        Next::Oldest(d) => [
-            n[0],
-            n[1],
-            n[2],
-            n[3],
-            1,
-            d.crate_number as u64,
-            d.sgl as u64,
-        ],
+        None => [0, 0, 0],
+        Some(d) => [1, u64::from(d.crate_number), u64::from(d.sgl)],
     }
 }
 
-pub fn admission_numbers(a: Admission) -> [u64; 5]
-    ensures { result ≡ numbers_of a }
+pub fn taken_numbers(outcome: Result<Taken, Refused>) -> [u64; 7]
+    ensures { result ≡ taken_numbers (taken_answer_of outcome) (next_of outcome) }
 {
-    match a {
-        Admission::Refused(r) => [r.number as u64, r.place as u64, 0, 0, 0],
-        Admission::Admitted(c) => [0, 0, c.worst, c.incoming, c.outgoing],
-    }
+    let n = queued_numbers(outcome.map(|t| t.queued));
+    let d = next_numbers(outcome.ok().and_then(|t| t.next));
+    [n[0], n[1], n[2], n[3], d[0], d[1], d[2]]
 }
 
-fn number_of(b: bool) -> u64
-    ensures { result ≡ number_of b }
+pub fn admission_numbers(outcome: Result<Counts, Refused>) -> [u64; 5]
+    ensures { result ≡ numbers_of (admitted_by outcome) }
 {
-    if b { 1 } else { 0 }
+    match outcome {
+        Ok(c) => [0, 0, c.worst, c.incoming, c.outgoing],
+        Err(r) => refused_numbers(r),
+    }
 }
 
 pub fn record_numbers(run: Record) -> [u64; 13]
     ensures { result ≡ record_numbers run }
 {
-    let spot = run.spot;
-    let position = run.position;
-    let marks = run.marks;
-    let note = run.note;
     [
-        number_of(run.ended),
-        spot.instruction as u64,
+        u64::from(run.ended),
+        run.spot.instruction as u64,
         run.left as u64,
         run.tries as u64,
-        position.station as u64,
-        position.subaddress as u64,
-        marks.incoming as u64,
-        marks.outgoing as u64,
+        u64::from(run.position.station),
+        u64::from(run.position.subaddress),
+        run.marks.incoming as u64,
+        run.marks.outgoing as u64,
         run.operations,
-        run.status as u64,
-        note.buffer as u64,
-        note.offset as u64,
-        note.size as u64,
+        u64::from(run.status),
+        u64::from(run.note.buffer),
+        run.note.offset as u64,
+        run.note.size as u64,
     ]
 }
 
-pub fn run_numbers(r: Ran) -> [u64; 16]
-    ensures { result ≡ run_numbers r }
+// Number, place, the replies taken, and the record; of a refused run the zero record marked ended.
+pub fn run_numbers(outcome: Result<Ran, Refused>) -> [u64; 16]
+    ensures { result ≡ ran_numbers (refusal_of outcome) (taken_in outcome) (ran_run outcome) }
 {
-    let refusal = r.refusal;
-    let run = r.run;
+    let (number, place, taken, run) = match outcome {
+        Ok(ran) => (0, 0, ran.taken, ran.run),
+        Err(r) => (r.fault.number(), r.place, 0, reply::zero_record(true)),
+    };
     let n = record_numbers(run);
     [
-        refusal.number as u64,
-        refusal.place as u64,
-        r.taken as u64,
+        u64::from(number),
+        place as u64,
+        taken as u64,
         n[0],
         n[1],
         n[2],
@@ -115,35 +121,45 @@ pub fn run_numbers(r: Ran) -> [u64; 16]
     ]
 }
 
-pub fn call_numbers(refusal: Refusal, wanted: Operation) -> [u64; 8]
-    ensures { result ≡ call_numbers refusal wanted }
+// The operation wanted; zeros where none is.
+fn wanted_numbers(wanted: Option<Operation>) -> [u64; 6]
+    ensures { result ≡ wanted_numbers (operation_or_none wanted) }
 {
-    [
-        refusal.number as u64,
-        refusal.place as u64,
-        wanted.crate_number as u64,
-        wanted.station as u64,
-        wanted.subaddress as u64,
-        wanted.function as u64,
-        wanted.word as u64,
-        number_of(wanted.enhanced),
-    ]
+    match wanted {
+        None => [0, 0, 0, 0, 0, 0],
+        Some(o) => [
+            u64::from(o.crate_number),
+            u64::from(o.station),
+            u64::from(o.subaddress),
+            u64::from(o.function),
+            u64::from(o.word),
+            u64::from(o.enhanced),
+        ],
+    }
 }
 
-pub fn steps_numbers(refusal: Refusal, taken: usize, wanted: Operation) -> [u64; 9]
-    ensures { result ≡ steps_numbers refusal taken wanted }
+pub fn call_numbers(outcome: Result<Yield, Refused>) -> [u64; 8]
+    ensures { result ≡ call_numbers (refusal_of outcome) (wanted_in outcome) }
 {
-    [
-        refusal.number as u64,
-        refusal.place as u64,
-        taken as u64,
-        wanted.crate_number as u64,
-        wanted.station as u64,
-        wanted.subaddress as u64,
-        wanted.function as u64,
-        wanted.word as u64,
-        number_of(wanted.enhanced),
-    ]
+    match outcome {
+        Ok(y) => {
+            let w = wanted_numbers(y.wanted);
+            [0, 0, w[0], w[1], w[2], w[3], w[4], w[5]]
+        }
+        Err(r) => refused_numbers(r),
+    }
+}
+
+pub fn steps_numbers(outcome: Result<Stepped, Refused>) -> [u64; 9]
+    ensures { result ≡ steps_numbers (refusal_of outcome) (steps_taken outcome) (steps_wanted outcome) }
+{
+    match outcome {
+        Ok(y) => {
+            let w = wanted_numbers(y.wanted);
+            [0, 0, y.taken as u64, w[0], w[1], w[2], w[3], w[4], w[5]]
+        }
+        Err(r) => refused_numbers(r),
+    }
 }
 
 // Whether each of a record's numbers fits its part.
@@ -153,7 +169,8 @@ pub fn is_narrow(n: [u64; 13]) -> bool
     (n[4] <= 0xFF) & (n[5] <= 0xFF) & (n[9] <= 0xFFFF_FFFF) & (n[10] <= 0xFF)
 }
 
-// The record of these numbers; one that fits no list where a number is too wide.
+// The record of these numbers; where a number is too wide, one that fits no list. The definition's record_in has a None there; here none is needed,
+// since a step refuses that record, and only behind what comes before it.
 pub fn record_of(n: [u64; 13]) -> Record
     ensures { result ≡ record_or n }
 {
@@ -161,8 +178,9 @@ pub fn record_of(n: [u64; 13]) -> Record
     if !is_narrow(n) {
         return reply::zero_record(ended);
     }
+    // All are narrow here: `as` loses no bits.
     Record {
-        ended: ended,
+        ended,
         spot: Spot {
             instruction: n[1] as usize,
         },
@@ -187,11 +205,11 @@ pub fn record_of(n: [u64; 13]) -> Record
 }
 
 // A record's numbers after a call: those given where it was refused.
-pub fn numbers_after(given: [u64; 13], refusal: Refusal, run: Record) -> [u64; 13]
-    ensures { result ≡ numbers_after given refusal run }
+pub fn numbers_after(given: [u64; 13], outcome: Result<Record, Refused>) -> [u64; 13]
+    ensures { result ≡ numbers_by given outcome }
 {
-    if is_narrow(given) & (refusal.number == 0) {
-        return record_numbers(run);
+    match outcome {
+        Ok(run) if is_narrow(given) => record_numbers(run),
+        _ => given,
     }
-    given
 }

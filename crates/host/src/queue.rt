@@ -16,11 +16,7 @@ pub extern "C" fn camlist_demand_add_v2(
     ensures answer { answer.new ≡ queued_numbers (add_of queue.old (demand_of crate_number sgl)).queued }
     ensures queue { queue.new ≡ (add_of queue.old (demand_of crate_number sgl)).queue }
 {
-    let demand = Demand {
-        crate_number: crate_number,
-        sgl: sgl,
-    };
-    *answer = queued_numbers(demands::add(queue, demand));
+    *answer = queued_numbers(demands::add(queue, Demand { crate_number, sgl }));
 }
 
 #[unsafe(no_mangle)]

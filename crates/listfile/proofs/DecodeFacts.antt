@@ -20,9 +20,6 @@ use Rattle.qmodes.specs.declared.modes.QMode.TheVariants.{Scan}
 use Rattle.camac.specs.declared.words.Address.{Address}
 use Rattle.camac.specs.declared.words.Transfer.{Transfer}
 use Rattle.camac.specs.declared.words.Command.{Command}
-use Rattle.camac.specs.declared.words.Decoded.{Decoded}
-use Rattle.camac.specs.declared.words.Decoded.TheVariants.{Carried}
-use Rattle.camac.specs.declared.words.Decoded.TheVariants as camac
 use Rattle.base.proofs.Bools.{and_left, and_right, or_false_left, or_false_right, or_first}
 use Rattle.base.proofs.Checks.{passed}
 use Rattle.base.proofs.Tests.{on}
@@ -30,8 +27,7 @@ use Rattle.base.specs.Bytes.{byte_at, short_at, long_at, Bytes}
 use Rattle.listfile.specs.Fields.{body_length, next_field, tag_at, first_at, second_at, head_fault, carried_by, body_of, after_head, field_of, first_fault, Field, Fields, faulty, fields, joined, fields_from, first_bad_jump, Program, program, after_jumps, after_fields, after_first, program_of}
 use Rattle.listfile.specs.declared.field.Instruction.{Instruction}
 use Rattle.listfile.specs.declared.field.Instruction.TheVariants.{Camac, Jump, Literal, Halt}
-use Rattle.listfile.specs.declared.field.FieldRead.{FieldRead}
-use Rattle.listfile.specs.declared.field.FieldRead.TheVariants.{Read, Refused}
+use Rattle.std.specs.Prelude.{Result, Ok, Err}
 use Rattle.listfile.specs.declared.field.Tag.{Tag}
 use Rattle.listfile.specs.declared.field.Tag.TheVariants.{CamacTag, JumpTag, LiteralTag, HaltTag, UnknownTag}
 use Rattle.listfile.proofs.FirstLaws.{first_limit}
@@ -116,35 +112,35 @@ command_sound len first second h e =
           (sym (command_qmode first second) ∙ q);
     }
 
-decode_sound : (len first second : ℕ) (c : Command) → second < 4294967296 → decode_of len first second ≡ Carried c → SoundCommand c
+decode_sound : (len first second : ℕ) (c : Command) → second < 4294967296 → decode_of len first second ≡ Ok c → SoundCommand c
 unfolding decode_of
 decode_sound len first second c h e = go (camac_fault len first second) refl e
   where
-    go : (n : ℕ) → camac_fault len first second ≡ n → decoded_by n (command_in first second) ≡ Carried c → SoundCommand c
+    go : (n : ℕ) → camac_fault len first second ≡ n → decoded_by n (command_in first second) ≡ Ok c → SoundCommand c
     go zero q e = let same : command_in first second ≡ c = cc in subst SoundCommand same (command_sound len first second h q)
     go (suc n) q e = let z : ◌≡◌ {A = ℕ} 0 1 = cc in absurd (omega arith)
 
 -- One field --------------------------------------------------------------------------------------------------------------
 
-body_sound : (tag : Tag) (list : List ℕ) (at : ℕ) (i : Instruction) → Bytes list → body_of tag list at ≡ Read i → SoundInstruction i
+body_sound : (tag : Tag) (list : List ℕ) (at : ℕ) (i : Instruction) → Bytes list → body_of tag list at ≡ Ok i → SoundInstruction i
 unfolding body_of
 body_sound CamacTag list at i hb e = go (decode_of (body_length list at) (first_at list at) (second_at list at)) refl e
   where
-    go : (x : Decoded) → decode_of (body_length list at) (first_at list at) (second_at list at) ≡ x → carried_by x ≡ Read i → SoundInstruction i
-    go (Carried c) q e =
+    go : (x : Result Command ℕ) → decode_of (body_length list at) (first_at list at) (second_at list at) ≡ x → carried_by x ≡ Ok i → SoundInstruction i
+    go (Ok c) q e =
         let same : Camac c ≡ i = cc in
         subst SoundInstruction same (decode_sound (body_length list at) (first_at list at) (second_at list at) c (second_most list at hb) q)
-    go (camac.Refused n) q e = let z : ◌≡◌ {A = ℕ} 0 1 = cc in absurd (omega arith)
+    go (Err n) q e = let z : ◌≡◌ {A = ℕ} 0 1 = cc in absurd (omega arith)
 body_sound JumpTag list at i hb e = let same : Jump (short_at list (at + 3)) ≡ i = cc in subst SoundInstruction same tt
 body_sound LiteralTag list at i hb e = let same : Literal (long_at list (at + 3)) ≡ i = cc in subst SoundInstruction same tt
 body_sound HaltTag list at i hb e = let same : Halt ≡ i = cc in subst SoundInstruction same tt
 body_sound UnknownTag list at i hb e = let z : ◌≡◌ {A = ℕ} 0 1 = cc in absurd (omega arith)
 
-field_sound : (list : List ℕ) (at count : ℕ) (i : Instruction) → Bytes list → field_of list at count ≡ Read i → SoundInstruction i
+field_sound : (list : List ℕ) (at count : ℕ) (i : Instruction) → Bytes list → field_of list at count ≡ Ok i → SoundInstruction i
 unfolding field_of
 field_sound list at count i hb e = go (head_fault list at count) e
   where
-    go : (n : ℕ) → after_head n (body_of (tag_at list at) list at) ≡ Read i → SoundInstruction i
+    go : (n : ℕ) → after_head n (body_of (tag_at list at) list at) ≡ Ok i → SoundInstruction i
     go zero e = body_sound (tag_at list at) list at i hb e
     go (suc n) e = let z : ◌≡◌ {A = ℕ} 0 1 = cc in absurd (omega arith)
 
@@ -154,7 +150,7 @@ field_sound list at count i hb e = go (head_fault list at count) e
 record FieldThen (list : List ℕ) (at count : ℕ) (rest : Fields) (fs : List Field) : Type 0 where
   instruction : Instruction
   others : List Field
-  read : field_of list at count ≡ Read instruction
+  read : field_of list at count ≡ Ok instruction
   after : rest ≡ fields others
   row : record { place = at; instruction = instruction } ∷ others ≡ fs
 
@@ -162,10 +158,10 @@ field_then : (list : List ℕ) (at count : ℕ) (rest : Fields) (fs : List Field
     → FieldThen list at count rest fs
 field_then list at count rest fs e = go (field_of list at count) refl rest refl e
   where
-    go : (x : FieldRead) → field_of list at count ≡ x → (y : Fields) → rest ≡ y → joined at x y ≡ fields fs → FieldThen list at count rest fs
-    go (Read i) p (faulty r) q e = let z : ◌≡◌ {A = ℕ} 0 1 = cc in absurd (omega arith)
-    go (Read i) p (fields others) q e = record { instruction = i; others = others; read = p; after = q; row = cc }
-    go (Refused n) p y q e = let z : ◌≡◌ {A = ℕ} 0 1 = cc in absurd (omega arith)
+    go : (x : Result Instruction ℕ) → field_of list at count ≡ x → (y : Fields) → rest ≡ y → joined at x y ≡ fields fs → FieldThen list at count rest fs
+    go (Ok i) p (faulty r) q e = let z : ◌≡◌ {A = ℕ} 0 1 = cc in absurd (omega arith)
+    go (Ok i) p (fields others) q e = record { instruction = i; others = others; read = p; after = q; row = cc }
+    go (Err n) p y q e = let z : ◌≡◌ {A = ℕ} 0 1 = cc in absurd (omega arith)
 
 -- the fields from a place on: none there, or one and those behind it
 fields_cases : (fuel : ℕ) (list : List ℕ) (at count : ℕ) (fs : List Field) → fields_from (suc fuel) list at count ≡ fields fs

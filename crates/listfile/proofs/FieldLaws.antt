@@ -15,7 +15,7 @@ use Rattle.listfile.specs.Fields.{body_length, next_field, tag_at, first_at, sec
 use Rattle.listfile.specs.model.Table.{instruction_by, instruction_at, read_by}
 use Rattle.listfile.specs.declared.field.Instruction.{Instruction}
 use Rattle.listfile.specs.declared.field.Instruction.TheVariants.{Camac}
-use Rattle.listfile.specs.declared.field.FieldRead.TheVariants.{Read, Refused}
+use Rattle.std.specs.Prelude.{Ok, Err}
 use Rattle.listfile.specs.declared.field.Tag.{Tag}
 use Rattle.listfile.specs.declared.field.Tag.TheVariants.{CamacTag, JumpTag, LiteralTag, HaltTag, UnknownTag}
 
@@ -23,11 +23,11 @@ use Rattle.listfile.specs.declared.field.Tag.TheVariants.{CamacTag, JumpTag, Lit
 
 -- where the checks of the head before place k fail and the one there holds
 pub field_refused : (list : List ℕ) (at count k : ℕ) → FirstAt k (head_checks list at count) → ¬ (number_at k (head_checks list at count) ≡ 0)
-    → Refused (number_at k (head_checks list at count)) ≡ field_of list at count
+    → Err (number_at k (head_checks list at count)) ≡ field_of list at count
 unfolding field_of head_fault
 field_refused list at count k f h = rw (first_at_lem k (head_checks list at count) f) (go (number_at k (head_checks list at count)) h)
   where
-    go : (n : ℕ) → ¬ (n ≡ 0) → Refused n ≡ after_head n (body_of (tag_at list at) list at)
+    go : (n : ℕ) → ¬ (n ≡ 0) → Err n ≡ after_head n (body_of (tag_at list at) list at)
     go zero h = absurd (h refl)
     go (suc n) h = refl
 
@@ -64,16 +64,16 @@ pub record Lies (list : List ℕ) (at count : ℕ) : Type 0 where
   pub short : body_length list at ≤ 8
   pub right : wrong_length (tag_at list at) (body_length list at) ≡ false
 
-pub read_head : (list : List ℕ) (at count : ℕ) (i : Instruction) → field_of list at count ≡ Read i
+pub read_head : (list : List ℕ) (at count : ℕ) (i : Instruction) → field_of list at count ≡ Ok i
     → head_fault list at count ≡ 0
 unfolding field_of
 read_head list at count i e = go (head_fault list at count) e
   where
-    go : (f : ℕ) → after_head f (body_of (tag_at list at) list at) ≡ Read i → f ≡ 0
+    go : (f : ℕ) → after_head f (body_of (tag_at list at) list at) ≡ Ok i → f ≡ 0
     go zero e = refl
     go (suc f) e = let z : ◌≡◌ {A = ℕ} 0 1 = cc in absurd (omega arith)
 
-pub field_lies : (list : List ℕ) (at count : ℕ) (i : Instruction) → field_of list at count ≡ Read i → Lies list at count
+pub field_lies : (list : List ℕ) (at count : ℕ) (i : Instruction) → field_of list at count ≡ Ok i → Lies list at count
 unfolding head_fault
 field_lies list at count i e =
     let c = passed (head_checks list at count) (omega arith) (read_head list at count i e) in
@@ -84,14 +84,14 @@ field_lies list at count i e =
       right = c.1.1.1.1.0;
     }
 
-body_again : (tag : Tag) (list : List ℕ) (at : ℕ) (i : Instruction) → body_of tag list at ≡ Read i
+body_again : (tag : Tag) (list : List ℕ) (at : ℕ) (i : Instruction) → body_of tag list at ≡ Ok i
     → i ≡ instruction_by tag list at
 unfolding body_of instruction_by decode_of
 body_again CamacTag list at i e =
     go (camac_fault (body_length list at) (first_at list at) (second_at list at))
     (command_in (first_at list at) (second_at list at)) e
   where
-    go : (f : ℕ) (c : Command) → carried_by (decoded_by f c) ≡ Read i → i ≡ Camac c
+    go : (f : ℕ) (c : Command) → carried_by (decoded_by f c) ≡ Ok i → i ≡ Camac c
     go zero c e = cc
     go (suc f) c e = let z : ◌≡◌ {A = ℕ} 0 1 = cc in absurd (omega arith)
 body_again JumpTag list at i e = cc
@@ -99,11 +99,11 @@ body_again LiteralTag list at i e = cc
 body_again HaltTag list at i e = cc
 body_again UnknownTag list at i e = let z : ◌≡◌ {A = ℕ} 0 1 = cc in absurd (omega arith)
 
-pub read_again : (list : List ℕ) (at count : ℕ) (i : Instruction) → field_of list at count ≡ Read i
+pub read_again : (list : List ℕ) (at count : ℕ) (i : Instruction) → field_of list at count ≡ Ok i
     → i ≡ instruction_at list at
 unfolding field_of instruction_at
 read_again list at count i e = go (head_fault list at count) e
   where
-    go : (f : ℕ) → after_head f (body_of (tag_at list at) list at) ≡ Read i → i ≡ instruction_by (tag_at list at) list at
+    go : (f : ℕ) → after_head f (body_of (tag_at list at) list at) ≡ Ok i → i ≡ instruction_by (tag_at list at) list at
     go zero e = body_again (tag_at list at) list at i e
     go (suc f) e = let z : ◌≡◌ {A = ℕ} 0 1 = cc in absurd (omega arith)

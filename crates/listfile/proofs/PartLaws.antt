@@ -13,7 +13,7 @@ use Rattle.camac.specs.declared.words.Command.{Command}
 use Rattle.camac.proofs.BitLaws.{passes_long, block_long}
 use Rattle.listfile.specs.Fields.{body_length, tag_at, first_at, second_at, wrong_length, head_fault, carried_by, body_of, after_head, field_of}
 use Rattle.listfile.specs.model.Table.{instruction_at, FieldPassed}
-use Rattle.listfile.specs.declared.field.FieldRead.TheVariants.{Read}
+use Rattle.std.specs.Prelude.{Ok}
 use Rattle.listfile.specs.declared.field.Tag.TheVariants.{CamacTag, JumpTag}
 use Rattle.listfile.proofs.FieldLaws.{read_head, Lies, field_lies, longwords_least}
 
@@ -38,11 +38,11 @@ module _ (list : List ℕ) (at : ℕ) (p : FieldPassed list at) where
     pub camac_passes : camac_fault (body_length list at) (first_at list at) (second_at list at) ≡ 0
     unfolding field_of body_of decode_of
     camac_passes =
-        let read : after_head (head_fault list at p.count) (body_of (tag_at list at) list at) ≡ Read (instruction_at list at) = p.read in
+        let read : after_head (head_fault list at p.count) (body_of (tag_at list at) list at) ≡ Ok (instruction_at list at) = p.read in
         go (camac_fault (body_length list at) (first_at list at) (second_at list at)) (command_in (first_at list at) (second_at list at))
         (rw (read_head list at p.count (instruction_at list at) p.read, t) at read)
       where
-        go : (f : ℕ) (c : Command) → carried_by (decoded_by f c) ≡ Read (instruction_at list at) → f ≡ 0
+        go : (f : ℕ) (c : Command) → carried_by (decoded_by f c) ≡ Ok (instruction_at list at) → f ≡ 0
         go zero c e = refl
         go (suc f) c e = let z : ◌≡◌ {A = ℕ} 0 1 = cc in absurd (omega arith)
 

@@ -13,12 +13,11 @@ use borrow.Author.Tests.{lt-leb}
 use lib.ListN.{length, get_or, set, drop, length-append, get_or-append}
 use lib.Seq.{get_or-set_same, get_or-set_other, drop-cons, drop-nil, get_or-append_seam}
 use Rattle.std.specs.Prelude.{if◌then◌else◌}
-use Rattle.listfile.specs.Fields.{next_field, field_of, number_of, Field, Fields, faulty, fields, ahead, fields_from, bad_target, first_bad_jump}
+use Rattle.listfile.specs.Fields.{next_field, field_of, Field, Fields, faulty, fields, ahead, fields_from, bad_target, first_bad_jump}
 use Rattle.listfile.specs.model.Table.{instruction_at, place_of, first_fields, FieldPassed, TableRight, TargetBelow, Beyond}
 use Rattle.listfile.specs.declared.field.Instruction.{Instruction}
 use Rattle.listfile.specs.declared.field.Instruction.TheVariants.{Camac, Jump, Literal, Halt}
-use Rattle.listfile.specs.declared.field.FieldRead.{FieldRead}
-use Rattle.listfile.specs.declared.field.FieldRead.TheVariants.{Read, Refused}
+use Rattle.std.specs.Prelude.{Ok, Err}
 use Rattle.listfile.proofs.FieldLaws.{read_again}
 use Rattle.listfile.proofs.Unrolled.{fields_end, fields_on}
 
@@ -49,13 +48,12 @@ unfolding first_fields
 pass_start list =
     let z : length list - 0 ≡ length list = omega arith in rw z (prefixed_none (fields_from (length list) list 7 0))
 
-pub pass_refused : (list : List ℕ) (at n fuel : ℕ) (fs : List Field) (x : FieldRead) (m number : ℕ) → 0 < fuel
-    → at < length list → x ≡ field_of list at n → x ≡ Refused m → number ≡ number_of x
-    → prefixed fs (fields_from fuel list at n) ≡ faulty (record { number = number; place = at })
-pass_refused list at n zero fs x m number u h e r en = absurd (omega arith)
-pass_refused list at n (suc fuel) fs x m number u h e r en = rw (fields_on fuel list at n h, ← e, en, r)
+pub pass_refused : (list : List ℕ) (at n fuel : ℕ) (fs : List Field) (number : ℕ) → 0 < fuel → at < length list
+    → field_of list at n ≡ Err number → prefixed fs (fields_from fuel list at n) ≡ faulty (record { number = number; place = at })
+pass_refused list at n zero fs number u h e = absurd (omega arith)
+pass_refused list at n (suc fuel) fs number u h e = rw (fields_on fuel list at n h, e)
 
-fields_step : (list : List ℕ) (at n fuel : ℕ) (i : Instruction) → at < length list → field_of list at n ≡ Read i
+fields_step : (list : List ℕ) (at n fuel : ℕ) (i : Instruction) → at < length list → field_of list at n ≡ Ok i
     → fields_from (suc fuel) list at n ≡ ahead (here list at) (fields_from fuel list (next_field list at) (n + 1))
 fields_step list at n fuel i h e = rw (fields_on fuel list at n h, e, read_again list at n i e)
 
@@ -65,7 +63,7 @@ unfolding first_fields
 fields_more list at n e = rw (add-one n, e)
 
 pub pass_more : (list : List ℕ) (at n fuel next : ℕ) (i : Instruction) → 0 < fuel → at < length list
-    → field_of list at n ≡ Read i → at ≡ place_of list n → next ≡ next_field list at
+    → field_of list at n ≡ Ok i → at ≡ place_of list n → next ≡ next_field list at
     → prefixed (first_fields list n) (fields_from fuel list at n) ≡ prefixed (first_fields list (n + 1))
     (fields_from (fuel - 1) list next (n + 1))
 pass_more list at n zero next i u h e a l = absurd (omega arith)
@@ -74,7 +72,7 @@ pass_more list at n (suc fuel) next i u h e a l =
     (prefixed_more (first_fields list n) (here list at) (fields_from fuel list (next_field list at) (n + 1)))
 
 pub pass_turn : (list : List ℕ) (at n next : ℕ) (i : Instruction) → n < length list → at < length list
-    → field_of list at n ≡ Read i → at ≡ place_of list n → next ≡ next_field list at
+    → field_of list at n ≡ Ok i → at ≡ place_of list n → next ≡ next_field list at
     → prefixed (first_fields list n) (fields_from (length list - n) list at n) ≡ prefixed (first_fields list (n + 1))
     (fields_from (length list - (n + 1)) list next (n + 1))
 pass_turn list at n next i u h e a l =
@@ -104,14 +102,14 @@ below_next : (k n : ℕ) → k < n + 1 → (k ≡ n) ⊎ (k < n)
 below_next k n h = eq-or-lt_of_le (le_of_suc-le-suc (rw (add-one n) at h))
 
 pub table_more : (list table : List ℕ) (at n : ℕ) (i : Instruction) → TableRight list table n → n < length table → at ≡ place_of list n
-    → field_of list at n ≡ Read i → TableRight list (set table n at) (n + 1)
+    → field_of list at n ≡ Ok i → TableRight list (set table n at) (n + 1)
 table_more list table at n i t h e r = record {
   entry = λ k l.
       ⊎_elim
       (λ p. rw p (get_or-set_same table n at 0 h ∙ e))
       (λ b. get_or-set_other table n k at 0 (λ q. omega arith) ∙ t.entry k b)
       (below_next k n l);
-  passed = λ k l. ⊎_elim (λ p. rw p (subst (FieldPassed list) e (record { count = n; read = r ∙ ap Read (read_again list at n i r) }))) (λ b. t.passed k b) (below_next k n l);
+  passed = λ k l. ⊎_elim (λ p. rw p (subst (FieldPassed list) e (record { count = n; read = r ∙ ap Ok (read_again list at n i r) }))) (λ b. t.passed k b) (below_next k n l);
 }
 
 -- Jumps --------------------------------------------------------------------------------------------------------------------
@@ -125,7 +123,7 @@ above_more x y Halt h t = tt
 pub beyond_none : (list : List ℕ) (x : ℕ) → Beyond list 0 x
 beyond_none list x = record { target = λ k h. absurd (omega arith) }
 
-pub beyond_more : (list : List ℕ) (at n x y : ℕ) (i : Instruction) → Beyond list n x → at ≡ place_of list n → field_of list at n ≡ Read i
+pub beyond_more : (list : List ℕ) (at n x y : ℕ) (i : Instruction) → Beyond list n x → at ≡ place_of list n → field_of list at n ≡ Ok i
     → x ≤ y → TargetBelow y i → Beyond list (n + 1) y
 beyond_more list at n x y i b e r h t = record {
   target = λ k l.

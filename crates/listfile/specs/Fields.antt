@@ -1,18 +1,14 @@
 -- The list file (document 01, "The list file"; refusals 1 to 5 and 10 of "Who can cause which refusal", 6 to 9 by the crate camac).
 -- `at` is the place of a field, its first byte; `count` is how many instructions stand before it.
-use Rattle.std.specs.Prelude.{ℕ, zero, suc, ◌+◌, min, Bool, true, false, ◌&&◌, ◌||◌, not, List, [], ◌∷◌, leb, ltb, eqb, length, if◌then◌else◌}
+use Rattle.std.specs.Prelude.{ℕ, zero, suc, ◌+◌, min, Bool, true, false, ◌&&◌, ◌||◌, not, List, [], ◌∷◌, leb, ltb, eqb, length, if◌then◌else◌, Result, Ok, Err}
 use Rattle.std.proofs.Math.Option.{Option, none, some}
 use Rattle.base.specs.Checks.{Check, ◌gives◌, first_of}
 use Rattle.camac.specs.Words.{decode_of}
-use Rattle.camac.specs.declared.words.Decoded.{Decoded}
-use Rattle.camac.specs.declared.words.Decoded.TheVariants.{Carried}
-use Rattle.camac.specs.declared.words.Decoded.TheVariants as camac
+use Rattle.camac.specs.declared.words.Command.{Command}
 use Rattle.base.specs.Bytes.{byte_at, short_at, long_at}
-use Rattle.base.specs.declared.Refusal.{Refusal}
+use Rattle.base.specs.Refusals.{Refusal}
 use Rattle.listfile.specs.declared.field.Instruction.{Instruction}
 use Rattle.listfile.specs.declared.field.Instruction.TheVariants.{Camac, Jump, Literal, Halt}
-use Rattle.listfile.specs.declared.field.FieldRead.{FieldRead}
-use Rattle.listfile.specs.declared.field.FieldRead.TheVariants.{Read, Refused}
 use Rattle.listfile.specs.declared.field.Tag.{Tag}
 use Rattle.listfile.specs.declared.field.Tag.TheVariants.{CamacTag, JumpTag, LiteralTag, HaltTag, UnknownTag}
 
@@ -79,35 +75,25 @@ head_checks list at count =
 unfoldable pub head_fault : List ℕ → ℕ → ℕ → ℕ
 head_fault list at count = first_of (head_checks list at count)
 
-abbrev pub carried_by : Decoded → FieldRead
-carried_by (Carried c) = Read (Camac c)
-carried_by (camac.Refused number) = Refused number
-
--- "a definition gives this paper's number and values for each case": the number of a decode's answer, 0 where it is not refused
-abbrev pub number_in : Decoded → ℕ
-number_in (Carried c) = 0
-number_in (camac.Refused number) = number
+abbrev pub carried_by : Result Command ℕ → Result Instruction ℕ
+carried_by (Ok c) = Ok (Camac c)
+carried_by (Err number) = Err number
 
 -- a field's body by its tag: the instruction, "jump: number of the target instruction" among them, or 6 to 9
-unfoldable pub body_of : Tag → List ℕ → ℕ → FieldRead
+unfoldable pub body_of : Tag → List ℕ → ℕ → Result Instruction ℕ
 body_of CamacTag list at = carried_by (decode_of (body_length list at) (first_at list at) (second_at list at))
-body_of JumpTag list at = Read (Jump (short_at list (at + 3)))
-body_of LiteralTag list at = Read (Literal (long_at list (at + 3)))
-body_of HaltTag list at = Read Halt
-body_of UnknownTag list at = Refused 3
+body_of JumpTag list at = Ok (Jump (short_at list (at + 3)))
+body_of LiteralTag list at = Ok (Literal (long_at list (at + 3)))
+body_of HaltTag list at = Ok Halt
+body_of UnknownTag list at = Err 3
 
-abbrev pub after_head : ℕ → FieldRead → FieldRead
+abbrev pub after_head : ℕ → Result Instruction ℕ → Result Instruction ℕ
 after_head zero body = body
-after_head (suc number) body = Refused (suc number)
+after_head (suc number) body = Err (suc number)
 
 -- the field at a place, "each in the order listed for 1 to 9"
-unfoldable pub field_of : List ℕ → ℕ → ℕ → FieldRead
+unfoldable pub field_of : List ℕ → ℕ → ℕ → Result Instruction ℕ
 field_of list at count = after_head (head_fault list at count) (body_of (tag_at list at) list at)
-
--- "a definition gives this paper's number and values for each case": the number of a field's answer, 0 where it is not refused
-abbrev pub number_of : FieldRead → ℕ
-number_of (Read i) = 0
-number_of (Refused number) = number
 
 -- "01h .. format 1, a zero byte .. First field, once"
 abbrev pub is_first : List ℕ → Bool
@@ -143,9 +129,9 @@ ahead f (faulty r) = faulty r
 ahead f (fields fs) = fields (f ∷ fs)
 
 -- a refusal's "Place: first byte of the field"
-abbrev pub joined : ℕ → FieldRead → Fields → Fields
-joined at (Read i) rest = ahead (record { place = at; instruction = i }) rest
-joined at (Refused number) rest = faulty (record { number = number; place = at })
+abbrev pub joined : ℕ → Result Instruction ℕ → Fields → Fields
+joined at (Ok i) rest = ahead (record { place = at; instruction = i }) rest
+joined at (Err number) rest = faulty (record { number = number; place = at })
 
 -- "Fields go front to back", and "Unreached fields are checked too": those from `at` on. A field is at least three bytes, so that fuel for each byte
 -- suffices.

@@ -1,45 +1,25 @@
 // All fields front to back: refusals 1 to 10.
 ghost use Rattle.std.specs.Prelude.{◌≡◌, ◌≤◌, length};
 ghost use Rattle.listfile.specs.Fields.{is_first, first_fault, fields_from, bad_target, first_bad_jump, program_of};
-ghost use Rattle.listfile.specs.model.Table.{first_fields, TableRight, TargetBelow, Beyond, fields_by, TableBy, refusal_in, bad_jump_by, listed_by, TableChecked, refusal_of};
+ghost use Rattle.listfile.specs.model.Table.{first_fields, TableRight, TargetBelow, Beyond, fields_by, TableBy, bad_jump_by, listed_by, TableChecked};
+ghost use Rattle.base.specs.Refusals.{number_or_0};
 
-use crate::field::{FieldRead, Instruction, instruction_at, next_place, number_of};
+use crate::field::{Instruction, instruction_at, next_place};
 use crate::reader::read_at;
-use base::Refusal;
+use base::{Fault, Refused};
 
 // The number of instructions, and a number above the target of each jump.
-#[derive(Clone, Copy)]
+#[derive(Clone, Copy, Debug, PartialEq, Eq)]
 pub struct Extent {
     pub count: usize,
     pub furthest: usize,
 }
 
-// What the pass over the fields finds: the first refusal with its place, or how far they reach.
-#[derive(Clone, Copy)]
-pub enum Pass {
-    Refused(Refusal),
-    Through(Extent),
-}
-
-// The first jump whose target is no instruction.
-#[derive(Clone, Copy)]
-pub enum Jumps {
-    BadAt(usize),
-    Right,
-}
-
 // The number of instructions, and R.
-#[derive(Clone, Copy)]
+#[derive(Clone, Copy, Debug, PartialEq, Eq)]
 pub struct Sizes {
     pub count: usize,
     pub limit: usize,
-}
-
-// What the checks 1 to 10 find.
-#[derive(Clone, Copy)]
-pub enum Checked {
-    Refused(Refusal),
-    Passed(Sizes),
 }
 
 // A number above a jump's target too.
@@ -47,84 +27,70 @@ fn beyond(furthest: usize, i: Instruction) -> usize
     ensures { (furthest ≤ result) × TargetBelow result i }
 {
     match i {
-        Instruction::Camac(_) => furthest,
-        Instruction::Jump(target) => {
-            let above = base::usize_of_short(target) + 1;
-            if above < furthest {
-                return furthest;
-            }
-            above
-        }
-        Instruction::Literal(_) => furthest,
-        Instruction::Halt => furthest,
+        Instruction::Jump(target) => furthest.max(usize::from(target) + 1),
+        Instruction::Camac(_) | Instruction::Literal(_) | Instruction::Halt => furthest,
     }
 }
 
-// Front to back over the fields behind the first; the table gets the place of each. The caller's table has 4,096 entries.
-fn pass_fields(list: &[u8], table: &mut [u16]) -> Pass
-    requires { (7 ≤ length list.now) × (length table.old ≡ 4096) }
+// Front to back over the fields behind the first; the table gets the place of each.
+fn pass_fields(list: &[u8], table: &mut [u16; 4096]) -> Result<Extent, Refused>
+    requires { 7 ≤ length list.now }
     ensures { (fields_from (length list.now) list.now 7 0 ≡ fields_by list.now result)
         × TableBy list.now table.new result }
 {
     let mut at: usize = 7;
     let mut count: usize = 0;
     let mut furthest: usize = 0;
+    // A field's length says where the next begins, so that no range gives the places.
     while at < list.len() {
-        let field = read_at(list, at, count);
-        let FieldRead::Read(i) = field else {
-            return Pass::Refused(Refusal {
-                number: number_of(field),
-                place: at,
-            });
+        let i = match read_at(list, at, count) {
+            Ok(i) => i,
+            Err(fault) => return Err(Refused { fault, place: at }),
         };
         let next = next_place(list, at);
+        // 4,096 fields of at most 11 bytes: no bits are lost.
         table[count] = at as u16;
         furthest = beyond(furthest, i);
         at = next;
         count += 1;
     }
-    Pass::Through(Extent {
-        count: count,
-        furthest: furthest,
-    })
+    Ok(Extent { count, furthest })
 }
 
 fn is_bad_target(count: usize, i: Instruction) -> bool
     ensures { result ≡ bad_target count i }
 {
     match i {
-        Instruction::Camac(_) => false,
-        Instruction::Jump(target) => count <= (target as usize),
-        Instruction::Literal(_) => false,
-        Instruction::Halt => false,
+        Instruction::Jump(target) => count <= usize::from(target),
+        Instruction::Camac(_) | Instruction::Literal(_) | Instruction::Halt => false,
     }
 }
 
-// The first such jump, field by field.
-fn check_jumps(list: &[u8], table: &[u16], count: usize) -> Jumps
+// The first jump whose target is no instruction, field by field.
+fn check_jumps(list: &[u8], table: &[u16], count: usize) -> Option<usize>
     requires { (count ≤ length table.now) × TableRight list.now table.now count }
     ensures { first_bad_jump count (first_fields list.now count) ≡ bad_jump_by result }
 {
-    let mut k: usize = 0;
-    while k < count {
+    // By number: a loop over the table's first part was tried, and its proof did not close.
+    for k in 0..count {
         let place = table[k];
         if is_bad_target(count, instruction_at(list, place)) {
-            return Jumps::BadAt(place as usize);
+            return Some(usize::from(place));
         }
-        k += 1;
     }
-    Jumps::Right
+    None
 }
 
 // Refusal 10 over all fields, which are looked at again only where a jump leads past the last instruction.
-fn bad_jump(list: &[u8], table: &[u16], count: usize, furthest: usize) -> Jumps
-    requires { (count ≤ length table.now) × (TableRight list.now table.now count × Beyond list.now count furthest) }
-    ensures { first_bad_jump count (first_fields list.now count) ≡ bad_jump_by result }
+fn bad_jump(list: &[u8], table: &[u16], extent: Extent) -> Option<usize>
+    requires { (extent.count ≤ length table.now)
+        × (TableRight list.now table.now extent.count × Beyond list.now extent.count extent.furthest) }
+    ensures { first_bad_jump extent.count (first_fields list.now extent.count) ≡ bad_jump_by result }
 {
-    if furthest <= count {
-        return Jumps::Right;
+    if extent.furthest <= extent.count {
+        return None;
     }
-    check_jumps(list, table, count)
+    check_jumps(list, table, extent.count)
 }
 
 // The first field's tag, format and zero byte are as in the table. It is seven bytes.
@@ -135,85 +101,48 @@ fn is_first(list: &[u8]) -> bool
     (list[0] == 1) & (list[3] == 1) & (list[4] == 0)
 }
 
-// Refusals 1 and 2 of the first field, 0 where it passes.
-fn first_fault(list: &[u8]) -> u8
-    ensures { result ≡ first_fault list.now }
+// Refusals 1 and 2 of the first field.
+fn check_first(list: &[u8]) -> Result<(), Fault>
+    ensures { number_or_0 result ≡ first_fault list.now }
 {
-    if list.len() == 0 {
-        return 2;
+    if list.is_empty() {
+        return Err(Fault::FirstField);
     }
     if list.len() < 3 {
-        return 1;
+        return Err(Fault::PastEnd);
     }
     let len = base::short_at(list, 1);
     if list.len() < 3 + len {
-        return 1;
+        return Err(Fault::PastEnd);
     }
     if len != 4 {
-        return 2;
+        return Err(Fault::FirstField);
     }
     if base::short_at(list, 5) < 1 {
-        return 2;
+        return Err(Fault::FirstField);
     }
     if is_first(list) {
-        return 0;
+        return Ok(());
     }
-    2
+    Err(Fault::FirstField)
 }
 
-fn refusal_in(p: Pass) -> Refusal
-    ensures { result ≡ refusal_in p }
-{
-    match p {
-        Pass::Refused(r) => r,
-        Pass::Through(_) => Refusal {
-            number: 0,
-            place: 0,
-        },
-    }
-}
-
-// Refusals 1 to 10, or the number of instructions and R, with the place of each instruction in the table. The caller's table has 4,096
-// entries.
-pub fn check_list(list: &[u8], table: &mut [u16]) -> Checked
-    requires { length table.old ≡ 4096 }
+// Refusals 1 to 10, or the number of instructions and R, with the place of each instruction in the table. List, table and sizes stay parameters side
+// by side: a struct with what the table holds as a ghost field was tried, and FieldPassed, which has a number in it, is no proposition.
+pub fn check_list(list: &[u8], table: &mut [u16; 4096]) -> Result<Sizes, Refused>
     ensures { (program_of list.now ≡ listed_by list.now result)
         × TableChecked list.now table.new result }
 {
-    let fault = first_fault(list);
-    if fault != 0 {
-        return Checked::Refused(Refusal {
-            number: fault,
-            place: 0,
+    check_first(list)?;
+    let extent = pass_fields(list, table)?;
+    if let Some(place) = bad_jump(list, table, extent) {
+        return Err(Refused {
+            fault: Fault::NoSuchTarget,
+            place,
         });
     }
-    let pass = pass_fields(list, table);
-    let Pass::Through(extent) = pass else {
-        return Checked::Refused(refusal_in(pass));
-    };
-    let count = extent.count;
-    let jumps = bad_jump(list, table, count, extent.furthest);
-    match jumps {
-        Jumps::BadAt(place) => Checked::Refused(Refusal {
-            number: 10,
-            place: place,
-        }),
-        Jumps::Right => Checked::Passed(Sizes {
-            count: count,
-            limit: base::short_at(list, 5),
-        }),
-    }
-}
-
-// The refusal of the checks, zeros where it is none.
-pub fn refusal_of(c: Checked) -> Refusal
-    ensures { result ≡ refusal_of c }
-{
-    match c {
-        Checked::Refused(r) => r,
-        Checked::Passed(_) => Refusal {
-            number: 0,
-            place: 0,
-        },
-    }
+    Ok(Sizes {
+        count: extent.count,
+        limit: base::short_at(list, 5),
+    })
 }

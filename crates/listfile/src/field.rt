@@ -1,11 +1,13 @@
 // One field of the list file: its tag, its length, its instruction, refusals 1 and 3 to 9.
-ghost use Rattle.std.specs.Prelude.{◌≡◌, ◌^◌, ◌<◌, ◌≤◌, length, leb, eqb, ◌||◌};
-ghost use Rattle.listfile.specs.Fields.{tag_of, tag_at, body_length, next_field, place_after, second_at, number_in, body_of, field_of, number_of};
+ghost use Rattle.std.specs.Prelude.{◌≡◌, ◌^◌, ◌<◌, ◌≤◌, length, leb};
+ghost use Rattle.base.specs.Refusals.{numbered};
+ghost use Rattle.listfile.specs.Fields.{tag_at, body_length, next_field, place_after, second_at, body_of, field_of};
 ghost use Rattle.listfile.specs.model.Table.{instruction_at, read_by};
 
-use camac::{Command, Decoded};
+use base::Fault;
+use camac::Command;
 
-#[derive(Clone, Copy)]
+#[derive(Clone, Copy, Debug, PartialEq, Eq)]
 pub enum Instruction {
     Camac(Command),
     Jump(u16),
@@ -15,8 +17,8 @@ pub enum Instruction {
 
 const MOST_INSTRUCTIONS: usize = 4096;
 
-// What a field's tag byte says.
-#[derive(Clone, Copy)]
+// What a field's tag byte says. An unknown tag is a case of its own, as in the definition, and no missing one: its refusal is its own too.
+#[derive(Clone, Copy, Debug, PartialEq, Eq)]
 pub enum Tag {
     CamacTag,
     JumpTag,
@@ -25,29 +27,26 @@ pub enum Tag {
     UnknownTag,
 }
 
-// What a field is read as: its instruction, or the number of its refusal.
-#[derive(Clone, Copy)]
-pub enum FieldRead {
-    Read(Instruction),
-    Refused(u8),
-}
+impl From<u8> for Tag {
+    ghost use Rattle.listfile.specs.model.Table.{ReadsTag};
 
-pub(crate) fn tag_of(byte: u8) -> Tag
-    ensures { result ≡ tag_of byte }
-{
-    match byte {
-        0x10 => Tag::CamacTag,
-        0x20 => Tag::JumpTag,
-        0x21 => Tag::LiteralTag,
-        0x2F => Tag::HaltTag,
-        _ => Tag::UnknownTag,
+    ghost from_gives = { ReadsTag };
+
+    fn from(byte: u8) -> Tag {
+        match byte {
+            0x10 => Tag::CamacTag,
+            0x20 => Tag::JumpTag,
+            0x21 => Tag::LiteralTag,
+            0x2F => Tag::HaltTag,
+            _ => Tag::UnknownTag,
+        }
     }
 }
 
 fn tag_at(list: &[u8], at: usize) -> Tag
     ensures { result ≡ tag_at list.now at }
 {
-    tag_of(base::byte_at(list, at))
+    Tag::from(base::byte_at(list, at))
 }
 
 // The place behind the field at a place. A place is below 2^63: it counts bytes of a list.
@@ -78,7 +77,7 @@ pub(crate) fn is_past(list: &[u8], at: usize) -> bool
     list.len() <= at
 }
 
-// The second longword, 0 where the field has none. A place is below 2^63.
+// The second longword. 0 and not None where the field has none: the definition has it so, and a single's is not looked at. A place is below 2^63.
 fn second_at(list: &[u8], at: usize) -> u32
     requires { at < 2 ^ 63 }
     ensures { result ≡ second_at list.now at }
@@ -90,12 +89,12 @@ fn second_at(list: &[u8], at: usize) -> u32
 }
 
 // The instruction of a field that has passed its checks.
+#[tactic(auto, unfolding(crate::specs::model::Table::instruction_at, crate::specs::model::Table::instruction_by, crate::specs::Fields::first_at))]
 pub fn instruction_at(list: &[u8], place: u16) -> Instruction
     ensures { result ≡ instruction_at list.now place }
 {
-    let at = place as usize;
-    let tag = tag_at(list, at);
-    match tag {
+    let at = usize::from(place);
+    match tag_at(list, at) {
         Tag::CamacTag => {
             let first = base::long_at(list, at + 3);
             if camac::mode_in(first) == 0 {
@@ -106,105 +105,53 @@ pub fn instruction_at(list: &[u8], place: u16) -> Instruction
         }
         Tag::JumpTag => Instruction::Jump(base::short_at(list, at + 3) as u16),
         Tag::LiteralTag => Instruction::Literal(base::long_at(list, at + 3)),
-        Tag::HaltTag => Instruction::Halt,
-        Tag::UnknownTag => Instruction::Halt,
+        Tag::HaltTag | Tag::UnknownTag => Instruction::Halt,
     }
-}
-
-// The number of a decode's refusal, 0 where it is none.
-fn number_in(d: Decoded) -> u8
-    ensures { result ≡ number_in d }
-{
-    match d {
-        Decoded::Carried(_) => 0,
-        Decoded::Refused(number) => number,
-    }
-}
-
-// The length of one longword or of two.
-fn is_one_or_two(len: usize) -> bool
-    ensures { result ≡ (eqb len 4 || eqb len 8) }
-{
-    if len == 4 {
-        return true;
-    }
-    len == 8
 }
 
 // A CAMAC field's body, which lies in the list and has one longword or two.
-fn camac_at(list: &[u8], at: usize) -> FieldRead
+#[tactic(auto, unfolding(crate::specs::Fields::body_of, crate::specs::Fields::first_at))]
+fn camac_at(list: &[u8], at: usize) -> Result<Instruction, Fault>
     requires { (next_field list.now at ≤ length list.now) × (4 ≤ body_length list.now at) }
-    ensures { result ≡ body_of Tag.CamacTag list.now at }
+    ensures { numbered result ≡ body_of Tag.CamacTag list.now at }
 {
     let len = base::short_at(list, at + 1);
-    let decoded = camac::decode(len, base::whole_at(list, at + 3), second_at(list, at));
-    let Decoded::Carried(command) = decoded else {
-        return FieldRead::Refused(number_in(decoded));
-    };
-    FieldRead::Read(Instruction::Camac(command))
+    let command = camac::decode(len, base::whole_at(list, at + 3), second_at(list, at))?;
+    Ok(Instruction::Camac(command))
 }
 
-// A field that lies in the list, by its tag: refusals 3, 4 and 6 to 9. The tag is matched once.
-fn body_at(list: &[u8], at: usize) -> FieldRead
+// A field that lies in the list, by its tag: refusals 3, 4 and 6 to 9.
+#[tactic(auto, unfolding(crate::specs::Fields::body_of))]
+fn body_at(list: &[u8], at: usize) -> Result<Instruction, Fault>
     requires { next_field list.now at ≤ length list.now }
-    ensures { result ≡ read_by (tag_at list.now at) list.now at }
+    ensures { numbered result ≡ read_by (tag_at list.now at) list.now at }
 {
     let len = base::short_at(list, at + 1);
-    let tag = tag_at(list, at);
-    match tag {
-        Tag::CamacTag => {
-            if is_one_or_two(len) {
-                return camac_at(list, at);
-            }
-            FieldRead::Refused(4)
-        }
-        Tag::JumpTag => {
-            if len == 2 {
-                return FieldRead::Read(Instruction::Jump(base::short_at(list, at + 3) as u16));
-            }
-            FieldRead::Refused(4)
-        }
-        Tag::LiteralTag => {
-            if len == 4 {
-                return FieldRead::Read(Instruction::Literal(base::long_at(list, at + 3)));
-            }
-            FieldRead::Refused(4)
-        }
-        Tag::HaltTag => {
-            if len == 0 {
-                return FieldRead::Read(Instruction::Halt);
-            }
-            FieldRead::Refused(4)
-        }
-        Tag::UnknownTag => FieldRead::Refused(3),
+    match tag_at(list, at) {
+        Tag::CamacTag if len == 4 || len == 8 => camac_at(list, at),
+        Tag::JumpTag if len == 2 => Ok(Instruction::Jump(base::short_at(list, at + 3) as u16)),
+        Tag::LiteralTag if len == 4 => Ok(Instruction::Literal(base::long_at(list, at + 3))),
+        Tag::HaltTag if len == 0 => Ok(Instruction::Halt),
+        Tag::UnknownTag => Err(Fault::UnknownTag),
+        _ => Err(Fault::WrongLength),
     }
 }
 
 // The field at an offset, with `count` instructions before it: its instruction, or refusal 1 or 3 to 9.
-pub fn field_at(list: &[u8], at: usize, count: usize) -> FieldRead
-    ensures { result ≡ field_of list.now at count }
+pub fn field_at(list: &[u8], at: usize, count: usize) -> Result<Instruction, Fault>
+    ensures { numbered result ≡ field_of list.now at count }
 {
     if list.len() <= at {
-        return FieldRead::Refused(1);
+        return Err(Fault::PastEnd);
     }
     if list.len() < at + 3 {
-        return FieldRead::Refused(1);
+        return Err(Fault::PastEnd);
     }
     if list.len() < next_place(list, at) {
-        return FieldRead::Refused(1);
+        return Err(Fault::PastEnd);
     }
     if MOST_INSTRUCTIONS <= count {
-        return FieldRead::Refused(5);
+        return Err(Fault::TooManyInstructions);
     }
     body_at(list, at)
-}
-
-// The number of a field's refusal, 0 where it is none.
-pub(crate) fn number_of(f: FieldRead) -> u8
-    ensures { result ≡ number_of f }
-{
-    match f {
-        FieldRead::Read(_) => 0,
-        FieldRead::Refused(number) => number,
-    }
 }

@@ -6,7 +6,7 @@ pub mod field;
 pub mod parts;
 pub mod reader;
 
-pub use check::{Checked, Extent, Jumps, Pass, Sizes, check_list, refusal_of};
-pub use field::{FieldRead, Instruction, Tag, field_at, instruction_at};
+pub use check::{Extent, Sizes, check_list};
+pub use field::{Instruction, Tag, field_at, instruction_at};
 pub use parts::{first_at, tag_in, target_at, words_at};
 pub use reader::{is_at_end, moved, open, read, read_at};

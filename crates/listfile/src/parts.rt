@@ -1,4 +1,5 @@
-// Parts of a field that has passed its checks, read in place: what a walk or a run asks of it without decoding it whole.
+// Parts of a field that has passed its checks, read in place: what a walk or a run asks of it without decoding it whole. That a field passed
+// stands in contracts: a struct for it would be made anew wherever one is read in place.
 ghost use Rattle.std.specs.Prelude.{◌≡◌, ◌+◌};
 ghost use Rattle.base.specs.Bytes.{short_at};
 ghost use Rattle.camac.specs.Words.{command_in, words_of};
@@ -7,13 +8,13 @@ ghost use Rattle.listfile.specs.Fields.{tag_at, first_at, second_at};
 ghost use Rattle.listfile.specs.model.Table.{FieldPassed};
 ghost use Rattle.listfile.specs.declared.field.Tag.TheVariants.{CamacTag, JumpTag};
 
-use crate::field::{Tag, tag_of};
+use crate::field::Tag;
 
 pub fn tag_in(list: &[u8], at: usize) -> Tag
     requires { FieldPassed list.now at }
     ensures { result ≡ tag_at list.now at }
 {
-    tag_of(list[at])
+    Tag::from(list[at])
 }
 
 // The first longword of a CAMAC field.

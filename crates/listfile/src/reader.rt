@@ -1,8 +1,10 @@
-// The field reader. Its functions leave the work to those over a list and a place.
+// The field reader. Its functions leave the work to those over a list and a place; they are no methods, since the pages name them so.
 ghost use Rattle.std.specs.Prelude.{◌≡◌, length, leb};
+ghost use Rattle.base.specs.Refusals.{numbered};
 ghost use Rattle.listfile.specs.Fields.{place_after, field_of};
 
-use crate::field::{FieldRead, field_at, is_past, place_after};
+use crate::field::{Instruction, field_at, is_past, place_after};
+use base::Fault;
 
 // A list and the place of its next field, kept together.
 #[derive(Clone, Copy)]
@@ -19,8 +21,8 @@ pub fn open<'a>(list: &'a [u8]) -> Reader<'a>
 }
 
 // The field at the reader, with `count` instructions before it.
-pub fn read<'a>(r: Reader<'a>, count: usize) -> FieldRead
-    ensures { result ≡ field_of r.entry.list.now r.entry.at count }
+pub fn read<'a>(r: Reader<'a>, count: usize) -> Result<Instruction, Fault>
+    ensures { numbered result ≡ field_of r.entry.list.now r.entry.at count }
 {
     field_at(r.list, r.at, count)
 }
@@ -43,8 +45,8 @@ pub fn is_at_end<'a>(r: Reader<'a>) -> bool
 }
 
 // The field at an offset, by a reader.
-pub fn read_at(list: &[u8], at: usize, count: usize) -> FieldRead
-    ensures { result ≡ field_of list.now at count }
+pub fn read_at(list: &[u8], at: usize, count: usize) -> Result<Instruction, Fault>
+    ensures { numbered result ≡ field_of list.now at count }
 {
     read(Reader { list, at }, count)
 }

@@ -84,6 +84,20 @@ words_closed wide zero m h some = absurd (omega arith)
 words_closed wide (suc zero) m h some = omega arith
 words_closed wide (suc (suc n)) m h some = rw (words_closed wide (suc n) m h (omega arith)) (word_more wide n m h)
 
+pub no_words : (wide : Bool) (m : ℕ) → mark_after_words wide 0 m ≡ m
+unfolding mark_after_words
+no_words wide m = refl
+
+pub wide_words : (n m : ℕ) → m % 2 ≡ 0 → 1 ≤ n → mark_after_words true n m ≡ m + m % 4 + n * 4
+unfolding aligned_mark pad_at width_of
+wide_words n m h some = words_closed true n m h some
+
+-- 16-bit words have no pad, so that none of them needs no case of its own
+pub narrow_words : (n m : ℕ) → m % 2 ≡ 0 → mark_after_words false n m ≡ m + n * 2
+unfolding mark_after_words aligned_mark pad_at width_of
+narrow_words zero m h = omega arith
+narrow_words (suc n) m h = rw (words_closed false (suc n) m h (omega arith)) (omega arith)
+
 -- What is stored ---------------------------------------------------------------------------------------------------------
 
 bytes_length : (wide : Bool) (v : ℕ) → length (bytes_of wide v) ≡ width_of wide

@@ -1,4 +1,3 @@
-pub mod Leaving
 pub mod Most
 pub mod ScanFalls
 pub mod MostFalls

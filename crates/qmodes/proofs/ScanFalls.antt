@@ -7,28 +7,26 @@ use mathlib.Core.Logic.{◌⊎◌, inl, inr}
 use native.Mathlib.Omega.{arith}
 use lib.Dec.{leb, ltb}
 use borrow.Author.Tests.{ltb-true, ltb-false, leb-true, leb-false, le-leb, lt-leb}
-use Rattle.std.specs.Prelude.{if◌then◌else◌}
+use Rattle.std.specs.Prelude.{Option, Some, None, if◌then◌else◌}
 use Rattle.qmodes.specs.Scan.{stations, positions, after_done, after_other}
 use Rattle.qmodes.specs.declared.modes.QMode.TheVariants.{Scan}
 use Rattle.qmodes.specs.declared.scan.ScanPosition.{ScanPosition}
-use Rattle.qmodes.specs.declared.scan.Moved.{Moved}
-use Rattle.qmodes.specs.declared.scan.Moved.TheVariants.{At, RanOff}
 use Rattle.qmodes.specs.Modes.{ran_off, reached, most_left}
 
 -- the outcomes of a step to the next station, and of a step of the subaddress
-pub data OtherCase (p : ScanPosition) : Moved → Type 0 where
-  next_station : p.station < 23 → OtherCase p (At (record { station = p.station + 1; subaddress = 0 }))
-  runs_off : 23 ≤ p.station → OtherCase p RanOff
+pub data OtherCase (p : ScanPosition) : Option ScanPosition → Type 0 where
+  next_station : p.station < 23 → OtherCase p (Some (record { station = p.station + 1; subaddress = 0 }))
+  runs_off : 23 ≤ p.station → OtherCase p None
 
-pub data DoneCase (p : ScanPosition) : Moved → Type 0 where
-  next_subaddress : p.subaddress < 15 → DoneCase p (At (record { station = p.station; subaddress = p.subaddress + 1 }))
-  as_other : 15 ≤ p.subaddress → {x : Moved} → OtherCase p x → DoneCase p x
+pub data DoneCase (p : ScanPosition) : Option ScanPosition → Type 0 where
+  next_subaddress : p.subaddress < 15 → DoneCase p (Some (record { station = p.station; subaddress = p.subaddress + 1 }))
+  as_other : 15 ≤ p.subaddress → {x : Option ScanPosition} → OtherCase p x → DoneCase p x
 
 pub other_case : (p : ScanPosition) → OtherCase p (after_other p)
 unfolding after_other
 other_case p = go (ltb p.station 23) refl
   where
-    go : (t : Bool) → ltb p.station 23 ≡ t → OtherCase p (if t then At (record { station = p.station + 1; subaddress = 0 }) else RanOff)
+    go : (t : Bool) → ltb p.station 23 ≡ t → OtherCase p (if t then Some (record { station = p.station + 1; subaddress = 0 }) else None)
     go true e = next_station (ltb-true _ _ e)
     go false e = runs_off (ltb-false _ _ e)
 
@@ -37,7 +35,7 @@ unfolding after_done
 done_case p = go (ltb p.subaddress 15) refl
   where
     go : (t : Bool) → ltb p.subaddress 15 ≡ t
-        → DoneCase p (if t then At (record { station = p.station; subaddress = p.subaddress + 1 }) else after_other p)
+        → DoneCase p (if t then Some (record { station = p.station; subaddress = p.subaddress + 1 }) else after_other p)
     go true e = next_subaddress (ltb-true _ _ e)
     go false e = as_other (ltb-false _ _ e) (other_case p)
 
@@ -83,7 +81,7 @@ module _ (limit : ℕ) (p p' : ScanPosition) (left left' rest : ℕ) (hn : p.sta
       go false e false e' = omega (arith, scan_over limit p left rest (leb-false _ _ e), scan_over limit p' left' rest (leb-false _ _ e'))
 
 -- a done word with words left after it, and a miss, where the scan does not leave
-pub done_falls : (limit : ℕ) (p : ScanPosition) (left rest : ℕ) → p.station ≤ 23 → p.subaddress ≤ 15 → 2 ≤ left → {x : Moved} → DoneCase p x
+pub done_falls : (limit : ℕ) (p : ScanPosition) (left rest : ℕ) → p.station ≤ 23 → p.subaddress ≤ 15 → 2 ≤ left → {x : Option ScanPosition} → DoneCase p x
     → ran_off x ≡ false
     → most_left limit Scan (reached p x) (left - 1) 0 rest + 1 ≤ most_left limit Scan p left 0 rest
 unfolding positions stations
@@ -95,7 +93,7 @@ done_falls limit p left rest hn ha hl (as_other h (next_station g)) e =
     (omega arith) (λ k. omega arith)
 done_falls limit p left rest hn ha hl (as_other h (runs_off g)) e = absurd (true≢false e)
 
-pub other_falls : (limit : ℕ) (p : ScanPosition) (left rest : ℕ) → p.station ≤ 23 → p.subaddress ≤ 15 → 1 ≤ left → {x : Moved} → OtherCase p x
+pub other_falls : (limit : ℕ) (p : ScanPosition) (left rest : ℕ) → p.station ≤ 23 → p.subaddress ≤ 15 → 1 ≤ left → {x : Option ScanPosition} → OtherCase p x
     → ran_off x ≡ false
     → most_left limit Scan (reached p x) left 0 rest + 1 ≤ most_left limit Scan p left 0 rest
 unfolding positions stations
@@ -110,11 +108,11 @@ pub record InRange (from p : ScanPosition) : Type 0 where
   pub subaddress : p.subaddress ≤ 15
   pub onward : from.station * 16 + from.subaddress ≤ p.station * 16 + p.subaddress
 
-pub other_range : (from p : ScanPosition) → InRange from p → {x : Moved} → OtherCase p x → ran_off x ≡ false → InRange from (reached p x)
+pub other_range : (from p : ScanPosition) → InRange from p → {x : Option ScanPosition} → OtherCase p x → ran_off x ≡ false → InRange from (reached p x)
 other_range from p r (next_station g) e = record { station = omega arith; subaddress = omega arith; onward = omega arith }
 other_range from p r (runs_off g) e = absurd (true≢false e)
 
-pub done_range : (from p : ScanPosition) → InRange from p → {x : Moved} → DoneCase p x → ran_off x ≡ false → InRange from (reached p x)
+pub done_range : (from p : ScanPosition) → InRange from p → {x : Option ScanPosition} → DoneCase p x → ran_off x ≡ false → InRange from (reached p x)
 done_range from p r (next_subaddress h) e = record { station = r.station; subaddress = omega arith; onward = omega arith }
 done_range from p r (as_other h s) e = other_range from p r s e
 
@@ -143,7 +141,7 @@ sums p hn ha = omega arith
 
 -- a miss before station 23, at subaddress 15 with a position to spare, or at the last word
 pub miss_exact : (limit : ℕ) (from p : ScanPosition) (left rest : ℕ) → InRange from p → 1 ≤ left → left ≤ positions p
-    → p.station < 23 → ((p.subaddress ≡ 15) × (left < positions p)) ⊎ (left ≡ 1) → {x : Moved} → OtherCase p x
+    → p.station < 23 → ((p.subaddress ≡ 15) × (left < positions p)) ⊎ (left ≡ 1) → {x : Option ScanPosition} → OtherCase p x
     → (ran_off x ≡ false) × Exactly limit p (reached p x) left left rest
 miss_exact limit from p left rest r some room hn c (next_station g) =
     let p' : ScanPosition = record { station = p.station + 1; subaddress = 0 } in
@@ -171,7 +169,7 @@ miss_exact limit from p left rest r some room hn d (runs_off g) = absurd (omega 
 
 -- a done word elsewhere, with words left after it
 pub done_exact : (limit : ℕ) (from p : ScanPosition) (left rest : ℕ) → InRange from p → 2 ≤ left → left ≤ positions p
-    → (p.station < 23 → p.subaddress ≡ 15 → left < positions p → ⊥) → {x : Moved} → DoneCase p x
+    → (p.station < 23 → p.subaddress ≡ 15 → left < positions p → ⊥) → {x : Option ScanPosition} → DoneCase p x
     → (ran_off x ≡ false) × Exactly limit p (reached p x) left (left - 1) rest
 done_exact limit from p left rest r two room not-miss (next_subaddress h) =
     let p' : ScanPosition = record { station = p.station; subaddress = p.subaddress + 1 } in

@@ -1,13 +1,11 @@
 -- What each Q-mode does (document 01, "One operation, one reply", "Worst count" and the paragraph on fit): each question a table over stop,
 -- ignore, repeat and scan. "Q-mode 0 stop, 1 ignore, 2 repeat, 3 scan"; R is the try limit, `left` the words left of the instruction.
-use Rattle.std.specs.Prelude.{ℕ, ◌+◌, ◌-◌, ◌*◌, min, Bool, true, false, ◌&&◌, ◌||◌, not, leb, ltb, eqb, if◌then◌else◌}
+use Rattle.std.specs.Prelude.{ℕ, ◌+◌, ◌-◌, ◌*◌, min, Bool, true, false, ◌&&◌, ◌||◌, not, Option, Some, None, leb, ltb, eqb, if◌then◌else◌}
 use Rattle.qmodes.specs.Scan.{stations, positions, after_answer}
 use Rattle.qmodes.specs.declared.modes.QMode.{QMode}
 use Rattle.qmodes.specs.declared.modes.QMode.TheVariants.{Stop, Ignore, Repeat, Scan}
 use Rattle.qmodes.specs.declared.modes.Answer.{Answer}
 use Rattle.qmodes.specs.declared.scan.ScanPosition.{ScanPosition}
-use Rattle.qmodes.specs.declared.scan.Moved.{Moved}
-use Rattle.qmodes.specs.declared.scan.Moved.TheVariants.{At, RanOff}
 
 -- "Q-mode 3"
 abbrev pub is_scan : QMode → Bool
@@ -46,9 +44,9 @@ spent limit Ignore a tries = false
 spent limit Repeat a tries = not a.q && eqb (tries + 1) limit
 spent limit Scan a tries = false
 
-abbrev pub ran_off : Moved → Bool
-ran_off (At p) = false
-ran_off RanOff = true
+abbrev pub ran_off : Option ScanPosition → Bool
+ran_off (Some p) = false
+ran_off None = true
 
 -- "A scan's leaving is judged from Q, X and the words left, other causes aside"; "If n words are done, nothing was left, whatever the
 -- next address"
@@ -93,9 +91,9 @@ tries_after Repeat is_done tries = if is_done then 0 else tries + 1
 tries_after Scan is_done tries = 0
 
 -- A scan that ran off has left, which is a cause, so that nothing looks at the value for it.
-abbrev pub reached : ScanPosition → Moved → ScanPosition
-reached p (At p') = p'
-reached p RanOff = p
+abbrev pub reached : ScanPosition → Option ScanPosition → ScanPosition
+reached p (Some p') = p'
+reached p None = p
 
 unfoldable pub position_after : QMode → Bool → ScanPosition → ScanPosition
 position_after Stop is_done p = p

@@ -1,8 +1,6 @@
 -- A scan's position (document 01, "One operation, one reply" and "Worst count").
-use Rattle.std.specs.Prelude.{ℕ, ◌+◌, ◌-◌, ◌*◌, Bool, ltb, if◌then◌else◌}
+use Rattle.std.specs.Prelude.{ℕ, ◌+◌, ◌-◌, ◌*◌, Bool, Option, Some, None, ltb, if◌then◌else◌}
 use Rattle.qmodes.specs.declared.scan.ScanPosition.{ScanPosition}
-use Rattle.qmodes.specs.declared.scan.Moved.{Moved}
-use Rattle.qmodes.specs.declared.scan.Moved.TheVariants.{At, RanOff}
 
 -- "S = 24 − N": the stations from N to 23. Only scans ask for S and P, and refusal 7 keeps their N at 23 or below.
 unfoldable pub stations : ScanPosition → ℕ
@@ -13,13 +11,13 @@ unfoldable pub positions : ScanPosition → ℕ
 positions p = (23 - p.station) * 16 + 16 - p.subaddress
 
 -- "any other answer goes to subaddress 0 of the next station"
-unfoldable pub after_other : ScanPosition → Moved
-after_other p = if ltb p.station 23 then At (record { station = p.station + 1; subaddress = 0 }) else RanOff
+unfoldable pub after_other : ScanPosition → Option ScanPosition
+after_other p = if ltb p.station 23 then Some (record { station = p.station + 1; subaddress = 0 }) else None
 
 -- "a done word steps A by 1, from 15 to subaddress 0 of the next station"
-unfoldable pub after_done : ScanPosition → Moved
-after_done p = if ltb p.subaddress 15 then At (record { station = p.station; subaddress = p.subaddress + 1 }) else after_other p
+unfoldable pub after_done : ScanPosition → Option ScanPosition
+after_done p = if ltb p.subaddress 15 then Some (record { station = p.station; subaddress = p.subaddress + 1 }) else after_other p
 
 -- where a scan goes after an answer
-abbrev pub after_answer : Bool → ScanPosition → Moved
+abbrev pub after_answer : Bool → ScanPosition → Option ScanPosition
 after_answer is_done p = if is_done then after_done p else after_other p

@@ -9,4 +9,4 @@ pub use modes::{
     left_after, most_left, place_after_wait, place_after_words, position_after, position_fits,
     scan_leaves, tries_after, tries_fit, wait_flags, word_flags, words_ahead, worst_words,
 };
-pub use scan::{Moved, ScanPosition};
+pub use scan::ScanPosition;

@@ -1,12 +1,13 @@
-// What each Q-mode does: one question a function, one arm a Q-mode. specs/Modes is the same page in symbols.
+// What each Q-mode does: one question a function. specs/Modes is the same page in symbols. The bounds of R, tries, words and positions stand
+// in contracts, and not in types of their own: a record that C hands in may hold any numbers until it is seen whether it fits.
 ghost use Rattle.std.specs.Prelude.{◌≡◌, ◌+◌, ◌-◌, ◌*◌, ◌^◌, ◌<◌, ◌≤◌, min, leb, if◌then◌else◌};
 ghost use Rattle.qmodes.specs.Scan.{stations, positions};
 ghost use Rattle.qmodes.specs.Modes.{worst_words, is_scan, done, left_after, leaves, spent, scan_leaves, no_x, no_qin_stop, tries_after, position_after, most_left, tries_fit, same_position, position_fits};
 ghost use Rattle.qmodes.specs.model.Answers.{word_flags, wait_flags, can_wait, words_ahead, place_after_words, place_after_wait};
 
-use crate::scan::{Moved, ScanPosition};
+use crate::scan::ScanPosition;
 
-#[derive(Clone, Copy)]
+#[derive(Clone, Copy, Debug, PartialEq, Eq)]
 pub enum QMode {
     Stop,
     Ignore,
@@ -15,7 +16,7 @@ pub enum QMode {
 }
 
 // An answer's flags and data.
-#[derive(Clone, Copy)]
+#[derive(Clone, Copy, Debug, PartialEq, Eq)]
 pub struct Answer {
     pub q: bool,
     pub x: bool,
@@ -29,51 +30,34 @@ pub struct Answer {
 pub fn is_scan(q: QMode) -> bool
     ensures { result ≡ is_scan q }
 {
-    match q {
-        QMode::Stop => false,
-        QMode::Ignore => false,
-        QMode::Repeat => false,
-        QMode::Scan => true,
-    }
+    matches!(q, QMode::Scan)
 }
 
 pub fn is_done(q: QMode, a: Answer) -> bool
     ensures { result ≡ done q a }
 {
     match q {
-        QMode::Stop => a.q,
+        QMode::Stop | QMode::Repeat => a.q,
         QMode::Ignore => true,
-        QMode::Repeat => a.q,
         QMode::Scan => a.q && a.x,
     }
 }
 
 // Whether a scan leaves station 23 with words left.
+#[tactic(auto, unfolding(crate::specs::Modes::leaves))]
 pub fn is_leaving(a: Answer, p: ScanPosition, left: usize) -> bool
     ensures { result ≡ leaves a p left }
 {
-    if is_done(QMode::Scan, a) {
-        let next = p.after_done();
-        match next {
-            Moved::At(_) => false,
-            Moved::RanOff => 1 < left,
-        }
-    } else {
-        let next = p.after_other();
-        match next {
-            Moved::At(_) => false,
-            Moved::RanOff => left != 0,
-        }
-    }
+    let done = is_done(QMode::Scan, a);
+    let words_left = left.saturating_sub(usize::from(done));
+    p.after_answer(done).is_none() && words_left != 0
 }
 
 pub fn scan_leaves(q: QMode, a: Answer, p: ScanPosition, left: usize) -> bool
     ensures { result ≡ scan_leaves q a p left }
 {
     match q {
-        QMode::Stop => false,
-        QMode::Ignore => false,
-        QMode::Repeat => false,
+        QMode::Stop | QMode::Ignore | QMode::Repeat => false,
         QMode::Scan => is_leaving(a, p, left),
     }
 }
@@ -84,10 +68,8 @@ pub fn is_spent(limit: usize, q: QMode, a: Answer, tries: usize) -> bool
     ensures { result ≡ spent limit q a tries }
 {
     match q {
-        QMode::Stop => false,
-        QMode::Ignore => false,
-        QMode::Repeat => !a.q & (tries + 1 == limit),
-        QMode::Scan => false,
+        QMode::Stop | QMode::Ignore | QMode::Scan => false,
+        QMode::Repeat => !a.q && tries + 1 == limit,
     }
 }
 
@@ -95,9 +77,7 @@ pub fn has_no_x(q: QMode, ad: bool, a: Answer) -> bool
     ensures { result ≡ no_x q ad a }
 {
     match q {
-        QMode::Stop => !a.x && !ad,
-        QMode::Ignore => !a.x && !ad,
-        QMode::Repeat => !a.x && !ad,
+        QMode::Stop | QMode::Ignore | QMode::Repeat => !a.x && !ad,
         QMode::Scan => false,
     }
 }
@@ -107,9 +87,7 @@ pub fn has_no_q(q: QMode, block: bool, a: Answer) -> bool
 {
     match q {
         QMode::Stop => !a.q && !block,
-        QMode::Ignore => false,
-        QMode::Repeat => false,
-        QMode::Scan => false,
+        QMode::Ignore | QMode::Repeat | QMode::Scan => false,
     }
 }
 
@@ -123,44 +101,29 @@ pub fn left_after(q: QMode, moves: bool, left: usize) -> usize
     }
     match q {
         QMode::Stop => 0,
-        QMode::Ignore => left,
-        QMode::Repeat => left,
-        QMode::Scan => left,
+        QMode::Ignore | QMode::Repeat | QMode::Scan => left,
     }
 }
 
 // Tries stay below R, and R below 2^16.
+#[tactic(auto, unfolding(crate::specs::Modes::tries_after))]
 pub fn tries_after(q: QMode, moves: bool, tries: usize) -> usize
     requires { tries < 2 ^ 16 }
     ensures { result ≡ tries_after q moves tries }
 {
     match q {
-        QMode::Stop => 0,
-        QMode::Ignore => 0,
-        QMode::Repeat => {
-            if moves {
-                return 0;
-            }
-            tries + 1
-        }
-        QMode::Scan => 0,
+        QMode::Stop | QMode::Ignore | QMode::Scan => 0,
+        QMode::Repeat => if moves { 0 } else { tries + 1 },
     }
 }
 
+#[tactic(auto, unfolding(crate::specs::Modes::position_after))]
 pub fn position_after(q: QMode, moves: bool, p: ScanPosition) -> ScanPosition
     ensures { result ≡ position_after q moves p }
 {
     match q {
-        QMode::Stop => p,
-        QMode::Ignore => p,
-        QMode::Repeat => p,
-        QMode::Scan => {
-            let next = p.after_answer(moves);
-            match next {
-                Moved::At(x) => x,
-                Moved::RanOff => p,
-            }
-        }
+        QMode::Stop | QMode::Ignore | QMode::Repeat => p,
+        QMode::Scan => p.after_answer(moves).unwrap_or(p),
     }
 }
 
@@ -168,62 +131,37 @@ pub fn tries_fit(limit: usize, q: QMode, tries: usize) -> bool
     ensures { result ≡ tries_fit limit q tries }
 {
     match q {
-        QMode::Stop => tries == 0,
-        QMode::Ignore => tries == 0,
+        QMode::Stop | QMode::Ignore | QMode::Scan => tries == 0,
         QMode::Repeat => tries < limit,
-        QMode::Scan => tries == 0,
     }
-}
-
-fn is_same_position(p: ScanPosition, from: ScanPosition) -> bool
-    ensures { result ≡ same_position p from }
-{
-    if p.station == from.station {
-        return p.subaddress == from.subaddress;
-    }
-    false
-}
-
-// A position's place among all.
-fn place_of(p: ScanPosition) -> u32
-    ensures { result ≡ p.station * 16 + p.subaddress }
-{
-    base::u32_of(p.station) * 16 + base::u32_of(p.subaddress)
 }
 
 pub fn position_fits(q: QMode, from: ScanPosition, p: ScanPosition) -> bool
     ensures { result ≡ position_fits q from p }
 {
     match q {
-        QMode::Stop => is_same_position(p, from),
-        QMode::Ignore => is_same_position(p, from),
-        QMode::Repeat => is_same_position(p, from),
-        QMode::Scan => {
-            if 23 < p.station {
-                return false;
-            }
-            if 15 < p.subaddress {
-                return false;
-            }
-            place_of(from) <= place_of(p)
-        }
+        QMode::Stop | QMode::Ignore | QMode::Repeat => p == from,
+        QMode::Scan => p.station <= 23 && p.subaddress <= 15 && from.place() <= p.place(),
     }
 }
 
 // W of n words. R and n are the list's: below 2^16 and at most 2^32.
+#[tactic(auto, unfolding(crate::specs::Modes::worst_words, crate::specs::Scan::stations, crate::specs::Scan::positions))]
 pub fn worst_words(limit: u64, q: QMode, p: ScanPosition, words: u64) -> u64
     requires { (limit < 2 ^ 16) × (words ≤ 2 ^ 32) }
     ensures { (result ≡ worst_words limit q p words) × (result ≤ 2 ^ 48) }
 {
     match q {
-        QMode::Stop => words,
-        QMode::Ignore => words,
+        QMode::Stop | QMode::Ignore => words,
         QMode::Repeat => words * limit,
-        QMode::Scan => base::least(p.positions_left(), base::less(words, 1) + p.stations_left()),
+        QMode::Scan => p
+            .positions_left()
+            .min(words.saturating_sub(1) + p.stations_left()),
     }
 }
 
 // The most a scan can still make, `rest` being the most after it. Words and sum are an admitted list's.
+#[tactic(auto, unfolding(crate::specs::Scan::stations, crate::specs::Scan::positions))]
 fn most_of_scan(p: ScanPosition, left: u64, rest: u64) -> u64
     requires { (left ≤ 2 ^ 16) × (rest ≤ 2 ^ 60) }
     ensures { result ≡ (if leb left (positions p) then min (positions p) (left - 1 + stations p) + rest else positions p) }
@@ -232,14 +170,11 @@ fn most_of_scan(p: ScanPosition, left: u64, rest: u64) -> u64
     if places < left {
         return places;
     }
-    let steps = base::less(left, 1) + p.stations_left();
-    if places < steps {
-        return places + rest;
-    }
-    steps + rest
+    places.min(left.saturating_sub(1) + p.stations_left()) + rest
 }
 
 // The most operations still possible. Words, R and the walk's sum are an admitted list's.
+#[tactic(auto, unfolding(crate::specs::Modes::most_left))]
 pub fn most_left(
     limit: usize,
     q: QMode,
@@ -251,12 +186,10 @@ pub fn most_left(
     requires { (limit < 2 ^ 16) × ((left ≤ 2 ^ 16) × (rest ≤ 2 ^ 60)) }
     ensures { result ≡ most_left limit q p left tries rest }
 {
-    let words = base::u64_of_size(left);
+    let words = left as u64;
     match q {
-        QMode::Stop => words + rest,
-        QMode::Ignore => words + rest,
-        QMode::Repeat => base::less(words * base::u64_of_size(limit), base::u64_of_size(tries))
-            + rest,
+        QMode::Stop | QMode::Ignore => words + rest,
+        QMode::Repeat => (words * limit as u64).saturating_sub(tries as u64) + rest,
         QMode::Scan => most_of_scan(p, words, rest),
     }
 }
@@ -273,17 +206,14 @@ pub fn word_flags(q: QMode, ad: bool) -> u8
 {
     if ad {
         match q {
-            QMode::Stop => 0x01,
+            QMode::Stop | QMode::Repeat => 0x01,
             QMode::Ignore => 0x00,
-            QMode::Repeat => 0x01,
             QMode::Scan => 0x03,
         }
     } else {
         match q {
-            QMode::Stop => 0x37,
+            QMode::Stop | QMode::Repeat | QMode::Scan => 0x37,
             QMode::Ignore => 0x36,
-            QMode::Repeat => 0x37,
-            QMode::Scan => 0x37,
         }
     }
 }
@@ -293,9 +223,7 @@ pub fn wait_flags(q: QMode, ad: bool) -> u8
     ensures { result ≡ wait_flags q ad }
 {
     match q {
-        QMode::Stop => if ad { 0x00 } else { 0x36 },
-        QMode::Ignore => if ad { 0x00 } else { 0x36 },
-        QMode::Repeat => if ad { 0x00 } else { 0x36 },
+        QMode::Stop | QMode::Ignore | QMode::Repeat => if ad { 0x00 } else { 0x36 },
         QMode::Scan => if ad { 0x00 } else { 0x34 },
     }
 }
@@ -306,8 +234,7 @@ pub fn can_wait(q: QMode, limit: usize, tries: usize, position: usize) -> bool
     ensures { result ≡ can_wait q limit tries position }
 {
     match q {
-        QMode::Stop => false,
-        QMode::Ignore => false,
+        QMode::Stop | QMode::Ignore => false,
         QMode::Repeat => tries + 1 < limit,
         QMode::Scan => position < FIRST_OF_LAST,
     }
@@ -319,9 +246,7 @@ pub fn words_ahead(q: QMode, position: usize, left: usize) -> usize
     ensures { result ≡ words_ahead q position left }
 {
     match q {
-        QMode::Stop => left,
-        QMode::Ignore => left,
-        QMode::Repeat => left,
+        QMode::Stop | QMode::Ignore | QMode::Repeat => left,
         QMode::Scan => {
             let before = LAST - position;
             if before + 1 < left { before } else { left }
@@ -335,9 +260,7 @@ pub fn place_after_words(q: QMode, position: usize, words: usize) -> usize
     ensures { result ≡ place_after_words q position words }
 {
     match q {
-        QMode::Stop => position,
-        QMode::Ignore => position,
-        QMode::Repeat => position,
+        QMode::Stop | QMode::Ignore | QMode::Repeat => position,
         QMode::Scan => position + words,
     }
 }
@@ -348,9 +271,7 @@ pub fn place_after_wait(q: QMode, position: usize) -> usize
     ensures { result ≡ place_after_wait q position }
 {
     match q {
-        QMode::Stop => position,
-        QMode::Ignore => position,
-        QMode::Repeat => position,
+        QMode::Stop | QMode::Ignore | QMode::Repeat => position,
         QMode::Scan => (position / 16 + 1) * 16,
     }
 }

@@ -1,74 +1,74 @@
 // Scan positions.
-ghost use Rattle.std.specs.Prelude.{◌≡◌};
+ghost use Rattle.std.specs.Prelude.{◌≡◌, ◌+◌, ◌*◌};
 ghost use Rattle.qmodes.specs.Scan.{stations, positions, after_other, after_done, after_answer};
 ghost use Rattle.qmodes.specs.Modes.{done};
 
-#[derive(Clone, Copy)]
+#[derive(Clone, Copy, Debug, PartialEq, Eq)]
 pub struct ScanPosition {
     pub station: u8,
     pub subaddress: u8,
 }
 
-// A scan's next position, or that it ran off station 23.
-#[derive(Clone, Copy)]
-pub enum Moved {
-    At(ScanPosition),
-    RanOff,
-}
-
 impl ScanPosition {
     // S, the stations left.
+    #[tactic(auto, unfolding(crate::specs::Scan::stations))]
     pub fn stations_left(self) -> u64
         ensures { result ≡ stations self }
     {
-        base::less(24, base::u64_of(self.station))
+        24u64.saturating_sub(u64::from(self.station))
     }
 
     // P, the positions left.
+    #[tactic(auto, unfolding(crate::specs::Scan::positions))]
     pub fn positions_left(self) -> u64
         ensures { result ≡ positions self }
     {
-        base::less(
-            base::less(23, base::u64_of(self.station)) * 16 + 16,
-            base::u64_of(self.subaddress),
-        )
+        let here_on = 23u64.saturating_sub(u64::from(self.station)) * 16 + 16;
+        here_on.saturating_sub(u64::from(self.subaddress))
     }
 
-    // After any answer that is no done word. That a scan ends: specs/Ends.
-    pub fn after_other(self) -> Moved
+    // The place among all positions.
+    pub(crate) fn place(self) -> u32
+        ensures { result ≡ self.station * 16 + self.subaddress }
+    {
+        u32::from(self.station) * 16 + u32::from(self.subaddress)
+    }
+
+    // After any answer that is no done word; None: it ran off station 23. That a scan ends: specs/Ends.
+    #[tactic(auto, unfolding(crate::specs::Scan::after_other))]
+    pub fn after_other(self) -> Option<ScanPosition>
         ensures { result ≡ after_other self }
     {
-        let station = self.station;
-        if station < 23 {
-            return Moved::At(ScanPosition {
-                station: station + 1,
+        if self.station < 23 {
+            return Some(ScanPosition {
+                station: self.station + 1,
                 subaddress: 0,
             });
         }
-        Moved::RanOff
+        None
     }
 
     // After a done word. That a scan ends: specs/Ends.
     #[tactic(auto, unfolding(crate::specs::Scan::after_done))]
-    pub fn after_done(self) -> Moved
+    pub fn after_done(self) -> Option<ScanPosition>
         ensures { result ≡ after_done self }
     {
-        let subaddress = self.subaddress;
-        if subaddress < 15 {
-            return Moved::At(ScanPosition {
-                station: self.station,
-                subaddress: subaddress + 1,
+        if self.subaddress < 15 {
+            return Some(ScanPosition {
+                subaddress: self.subaddress + 1,
+                ..self
             });
         }
         self.after_other()
     }
 
-    pub fn after_answer(self, done: bool) -> Moved
+    pub fn after_answer(self, done: bool) -> Option<ScanPosition>
         ensures { result ≡ after_answer done self }
     {
         if done {
-            return self.after_done();
+            self.after_done()
+        } else {
+            self.after_other()
         }
-        self.after_other()
     }
 }

@@ -1,5 +1,6 @@
--- The causes stand from the greatest code on, so that the first that holds is the code of an answer; every cause has a code from 1 to 13.
+-- The causes stand from the greatest code on, so that the first that holds is the code of an answer; every cause has a code from 1 on.
 -- A scan that leaves has no smaller cause beside it but a damaged command, so that without one 9 as the greatest code is the only cause.
+use denote.Enum.Bare.{sameb}
 use Prim.Native.Nat.{ℕ, ◌≤◌, ◌<◌, max}
 use mathlib.Core.Path.{◌≡◌, refl, sym, ◌∙◌}
 use mathlib.Core.Bool.{Bool, true, false, ◌&&◌, not, and-false}
@@ -8,9 +9,10 @@ use mathlib.Core.List.{List, [], ◌∷◌}
 use native.Mathlib.Omega.{arith}
 use native.Mathlib.Nat.{max-le, le-max_left}
 use lib.Dec.{eqb}
-use Rattle.std.specs.Prelude.{if◌then◌else◌}
+use Rattle.std.specs.Prelude.{Option, Some, None, if◌then◌else◌}
+use Rattle.std.specs.Option.{option_eq}
 use Rattle.base.specs.Checks.{Check, ◌gives◌, first_of}
-use Rattle.base.proofs.Checks.{Numbered, FirstAt, number_at, first_at_lem}
+use Rattle.base.proofs.Checks.{Numbered}
 use Rattle.camac.specs.Words.{qmode_of, is_block}
 use Rattle.qmodes.specs.declared.modes.QMode.{QMode}
 use Rattle.qmodes.specs.declared.modes.QMode.TheVariants.{Stop, Ignore, Repeat, Scan}
@@ -22,6 +24,10 @@ use Rattle.qmodes.specs.declared.modes.Answer.{Answer}
 use Rattle.reply.specs.declared.replies.Reply.{Reply}
 use Rattle.reply.specs.declared.replies.Reply.TheVariants.{Answered, Timeout, NotRecognised, NoSync}
 use Rattle.reply.specs.declared.records.Record.{Record}
+use Rattle.reply.specs.model.Coded.{code_by, code_or_none}
+use Rattle.reply.specs.contracts.causes.Cause.{the_type}
+use Rattle.reply.specs.declared.causes.Cause.{Cause}
+use Rattle.reply.specs.declared.causes.Cause.TheVariants as cause
 use Rattle.base.proofs.Tests.{true_not_false}
 
 -- The greatest code ------------------------------------------------------------------------------------------------------
@@ -59,16 +65,6 @@ greatest_first (c ∷ cs) h = go c.holds (greatest_first cs h.1)
         omega (arith, le-max_left c.number (greatest (all_that_hold cs)))
     go false e = e
 
-code_small : (limit : ℕ) (c : Command) (r : Record) (reply : Reply) → code_of limit c r reply ≤ 13
-unfolding code_of causes_of cause_checks
-code_small limit c r NoSync = omega arith
-code_small limit c r NotRecognised = omega arith
-code_small limit c r Timeout = omega arith
-code_small limit c r (Answered a) = greatest_below 13 (cause_checks limit (qmode_of c.transfer) (is_block c.transfer) c.ad r a) (omega arith)
-
-pub code_below : (limit : ℕ) (c : Command) (r : Record) (reply : Reply) (x : ℕ) → x ≡ code_of limit c r reply → x ≤ 13
-code_below limit c r reply x e = omega (arith, code_small limit c r reply)
-
 -- The row of causes ------------------------------------------------------------------------------------------------------
 
 abbrev row : Bool → Bool → Bool → Bool → Bool → Bool → List ℕ
@@ -99,16 +95,20 @@ cause_numbered limit c r reply {code} {codes} e = omega (arith, first reply e, l
 
 -- The code of an answer --------------------------------------------------------------------------------------------------
 
--- where the causes before place k fail and the one there holds, its number is the code
-pub code_at :
-    (limit : ℕ) (c : Command) (r : Record) (a : Answer) (q : QMode) (block : Bool)
-    → q ≡ qmode_of c.transfer → block ≡ is_block c.transfer → (k : ℕ)
-    → FirstAt k (cause_checks limit q block c.ad r a) → number_at k (cause_checks limit q block c.ad r a) ≡ code_of limit c r (Answered a)
+-- the first that holds, asked one by one
+pub code_first :
+    (limit : ℕ) (c : Command) (r : Record) (a : Answer)
+    → code_of limit c r (Answered a)
+    ≡ (if spent limit (qmode_of c.transfer) a r.tries then 11
+    else if parity_error c.ad a then 10
+    else if scan_leaves (qmode_of c.transfer) a r.position r.left then 9
+    else if no_x (qmode_of c.transfer) c.ad a then 8
+    else if no_qin_stop (qmode_of c.transfer) (is_block c.transfer) a then 7
+    else if damaged c.ad a then 4
+    else 0)
 unfolding code_of causes_of cause_checks
-code_at limit c r a q block e b k h =
-    sym (first_at_lem k (cause_checks limit q block c.ad r a) h)
-    ∙ (sym (greatest_first (cause_checks limit q block c.ad r a) (omega arith))
-    ∙ rw (e, b))
+code_first limit c r a =
+    greatest_first (cause_checks limit (qmode_of c.transfer) (is_block c.transfer) c.ad r a) (omega arith)
 
 -- an answer that is no cause
 pub record NoCause (limit : ℕ) (c : Command) (r : Record) (a : Answer) : Type 0 where
@@ -164,6 +164,33 @@ leaving_no_q Stop block a p left h = absurd (true_not_false (sym h))
 leaving_no_q Ignore block a p left h = refl
 leaving_no_q Repeat block a p left h = refl
 leaving_no_q Scan block a p left h = refl
+
+-- a cause has a code
+pub some_code : (c : Cause) → 1 ≤ code_by c
+some_code cause.Damaged = omega arith
+some_code cause.NoQ = omega arith
+some_code cause.NoX = omega arith
+some_code cause.ScanLeft = omega arith
+some_code cause.Parity = omega arith
+some_code cause.Timeout = omega arith
+some_code cause.NotRecognised = omega arith
+some_code cause.NoSync = omega arith
+
+-- of the causes, one has the code 9
+pub nine_is : (c : Cause) → sameb the_type c cause.ScanLeft ≡ eqb (code_by c) 9
+nine_is cause.Damaged = refl
+nine_is cause.NoQ = refl
+nine_is cause.NoX = refl
+nine_is cause.ScanLeft = refl
+nine_is cause.Parity = refl
+nine_is cause.Timeout = refl
+nine_is cause.NotRecognised = refl
+nine_is cause.NoSync = refl
+
+-- and nothing, whose code is 0, has not
+pub nine_of : (o : Option Cause) → option_eq (sameb the_type) o (Some cause.ScanLeft) ≡ eqb (code_or_none o) 9
+nine_of (Some c) = nine_is c
+nine_of None = refl
 
 -- "with 9 as the only cause" is 9 as the greatest code of a command that is not damaged
 pub only_nine_lem :

@@ -10,8 +10,9 @@ use packing::Marks;
 use qmodes::ScanPosition;
 use walk::Spot;
 
-// The last word moved: its buffer (0 incoming, 1 outgoing), offset and length; zeros before any.
-#[derive(Clone, Copy)]
+// The last word moved: its buffer (0 incoming, 1 outgoing), offset and length; zeros before any. C hands a record in, where the buffer may be
+// any number.
+#[derive(Clone, Copy, Debug, PartialEq, Eq)]
 pub struct Note {
     pub buffer: u8,
     pub offset: usize,
@@ -19,8 +20,8 @@ pub struct Note {
 }
 
 // A run's record: ended, instruction (its spot), words left, tries made, current N and A, both marks, operations, status, note. The small
-// ones stand last, so that a copy has no gaps.
-#[derive(Clone, Copy)]
+// ones stand last, so that a copy has no gaps. `ended` is a flag, since C hands records in where it stands beside any numbers.
+#[derive(Clone, Copy, Debug, PartialEq, Eq)]
 pub struct Record {
     pub spot: Spot,
     pub left: usize,
@@ -38,7 +39,7 @@ pub fn zero_record(ended: bool) -> Record
     ensures { result ≡ zero_record ended }
 {
     Record {
-        ended: ended,
+        ended,
         spot: walk::first_spot(),
         left: 0,
         tries: 0,
@@ -60,13 +61,12 @@ pub fn zero_record(ended: bool) -> Record
     }
 }
 
-// The record of a run that ended at a spot. A code has four bits.
+// The record of a run that ended at a spot. A code is a number here, not a cause: this function promises an answer for any up to 13.
+#[tactic(auto, unfolding(crate::specs::Effect::ended_at))]
 pub fn ended_at(k: Spot, code: u32, r: Record) -> Record
     requires { code ≤ 13 }
     ensures { result ≡ ended_at k code r }
 {
-    let marks = r.marks;
-    let note = r.note;
     Record {
         ended: true,
         spot: k,
@@ -76,92 +76,57 @@ pub fn ended_at(k: Spot, code: u32, r: Record) -> Record
             station: 0,
             subaddress: 0,
         },
-        marks: marks,
-        operations: r.operations,
         status: r.status | (code * CODE + ENDED),
-        note: note,
+        ..r
     }
 }
 
 // The record that waits for the first reply of an instruction.
+#[tactic(auto, unfolding(crate::specs::Effect::waits_for))]
 pub fn waits_for(k: Spot, c: Command, r: Record) -> Record
     ensures { result ≡ waits_for k c r }
 {
-    let t = c.transfer;
-    let marks = r.marks;
-    let note = r.note;
     Record {
         ended: false,
         spot: k,
-        left: camac::words_of(t) as usize,
+        left: camac::words_of(c.transfer) as usize,
         tries: 0,
-        position: camac::position_of(t),
-        marks: marks,
-        operations: r.operations,
-        status: r.status,
-        note: note,
+        position: camac::position_of(c.transfer),
+        ..r
     }
 }
 
 // The record that waits on at the same instruction.
+#[tactic(auto, unfolding(crate::specs::Effect::waiting))]
 pub fn wait_on(left: usize, tries: usize, p: ScanPosition, r: Record) -> Record
     ensures { result ≡ waiting left tries p r }
 {
-    let spot = r.spot;
-    let marks = r.marks;
-    let note = r.note;
     Record {
         ended: false,
-        spot: spot,
-        left: left,
-        tries: tries,
+        left,
+        tries,
         position: p,
-        marks: marks,
-        operations: r.operations,
-        status: r.status,
-        note: note,
+        ..r
     }
 }
 
 pub fn with_marks(m: Marks, r: Record) -> Record
     ensures { result ≡ with_marks m r }
 {
-    let spot = r.spot;
-    let position = r.position;
-    let note = r.note;
-    Record {
-        ended: r.ended,
-        spot: spot,
-        left: r.left,
-        tries: r.tries,
-        position: position,
-        marks: m,
-        operations: r.operations,
-        status: r.status,
-        note: note,
-    }
+    Record { marks: m, ..r }
 }
 
 // A reply counted. No run makes 2^63 operations: W is below.
+#[tactic(auto, unfolding(crate::specs::Effect::counted))]
 pub fn counted_record(limit: usize, c: Command, reply: Reply, r: Record) -> Record
     requires { (r.operations < 2 ^ 63) × (r.tries < 2 ^ 16) }
     ensures { result ≡ counted limit c reply r }
 {
-    let spot = r.spot;
-    let position = r.position;
-    let marks = r.marks;
-    let note = r.note;
     let flags = flags_of(limit, c, r, reply);
     Record {
-        ended: r.ended,
-        spot: spot,
-        left: r.left,
-        tries: r.tries,
-        position: position,
-        marks: marks,
         operations: r.operations + 1,
         status: r.status | flags,
-        note: note,
+        ..r
     }
 }
 
@@ -173,11 +138,11 @@ pub fn moved_marks(d: Direction, wide: bool, m: Marks) -> Marks
     match d {
         Direction::Incoming => Marks {
             incoming: packing::mark_after(wide, m.incoming),
-            outgoing: m.outgoing,
+            ..m
         },
         Direction::Outgoing => Marks {
-            incoming: m.incoming,
             outgoing: packing::mark_after(wide, m.outgoing),
+            ..m
         },
         Direction::Neither => m,
     }
@@ -188,43 +153,31 @@ pub fn note_after(d: Direction, wide: bool, r: Record) -> Note
     requires { (r.marks.incoming < 2 ^ 63) × (r.marks.outgoing < 2 ^ 63) }
     ensures { result ≡ note_after d wide r }
 {
-    let marks = r.marks;
-    let note = r.note;
     match d {
         Direction::Incoming => Note {
             buffer: 0,
-            offset: packing::aligned_mark(wide, marks.incoming),
+            offset: packing::aligned_mark(wide, r.marks.incoming),
             size: packing::width_of(wide),
         },
         Direction::Outgoing => Note {
             buffer: 1,
-            offset: packing::aligned_mark(wide, marks.outgoing),
+            offset: packing::aligned_mark(wide, r.marks.outgoing),
             size: packing::width_of(wide),
         },
-        Direction::Neither => note,
+        Direction::Neither => r.note,
     }
 }
 
 // The record after one word moved. Every mark is below 2^63: it counts bytes of a buffer.
+#[tactic(auto, unfolding(crate::specs::Effect::moved_record, walk::specs::Walk::moved))]
 pub fn moved_record(c: Command, r: Record) -> Record
     requires { (r.marks.incoming < 2 ^ 63) × (r.marks.outgoing < 2 ^ 63) }
     ensures { result ≡ moved_record c r }
 {
-    let spot = r.spot;
-    let t = c.transfer;
-    let d = camac::direction_of(t);
-    let wide = c.wide;
-    let position = r.position;
-    let marks = r.marks;
+    let d = camac::direction_of(c.transfer);
     Record {
-        ended: r.ended,
-        spot: spot,
-        left: r.left,
-        tries: r.tries,
-        position: position,
-        marks: moved_marks(d, wide, marks),
-        operations: r.operations,
-        status: r.status,
-        note: note_after(d, wide, r),
+        marks: moved_marks(d, c.wide, r.marks),
+        note: note_after(d, c.wide, r),
+        ..r
     }
 }

@@ -11,7 +11,7 @@ pub const X_BIT: u32 = 1 << 30;
 
 pub const Q_BIT: u32 = 1 << 31;
 
-#[derive(Clone, Copy)]
+#[derive(Clone, Copy, Debug, PartialEq, Eq)]
 pub enum Reply {
     Answered(Answer),
     Timeout,
@@ -19,22 +19,10 @@ pub enum Reply {
     NoSync,
 }
 
-// What eight bytes are: a reply, or not formed as one.
-#[derive(Clone, Copy)]
-pub enum Formed {
-    Reply(Reply),
-    NotFormed,
-}
-
-// The answer in eight bytes. A piece of a row has eight.
-fn answer_in(bytes: &[u8]) -> Answer
-    requires { length bytes.now ≡ 8 }
+fn answer_in(bytes: &[u8; 8]) -> Answer
     ensures { result ≡ answer_in bytes.now }
 {
     let flags = bytes[1];
-    let word = base::u32_of(bytes[4])
-        + base::u32_of(bytes[5]) * 256
-        + base::u32_of(bytes[6]) * 65536;
     Answer {
         q: flags % 2 == 1,
         x: flags / 2 % 2 == 1,
@@ -42,33 +30,27 @@ fn answer_in(bytes: &[u8]) -> Answer
         derr: flags / 8 % 2 == 1,
         tpe: flags / 16 % 2 == 1,
         lpe: flags / 32 % 2 == 1,
-        word: word,
+        word: u32::from_le_bytes([bytes[4], bytes[5], bytes[6], 0]),
     }
 }
 
-// Whether eight bytes are a reply. A piece of a row has eight.
-fn is_formed(bytes: &[u8]) -> bool
-    requires { length bytes.now ≡ 8 }
+// Whether eight bytes are a reply.
+fn is_formed(bytes: &[u8; 8]) -> bool
     ensures { result ≡ is_formed bytes.now }
 {
-    let kind = bytes[0];
-    let flags = bytes[1];
-    if (bytes[2] == 0) & (bytes[3] == 0) & (bytes[7] == 0) {
-        if kind == 0 {
-            return flags < 64;
-        }
-        return (kind <= 3) & (flags == 0) & (bytes[4] == 0) & (bytes[5] == 0) & (bytes[6] == 0);
-    }
-    false
+    let [kind, flags, second, third, low, middle, high, last] = *bytes;
+    let is_bare = (flags == 0) & (low == 0) & (middle == 0) & (high == 0);
+    let has_zeros = (second == 0) & (third == 0) & (last == 0);
+    (flags < 64) & has_zeros & ((kind == 0) | is_bare) & (kind <= 3)
 }
 
 // The reply that formed bytes are: the kind, the flags and the data are all that is read.
-fn reply_in(bytes: &[u8]) -> Reply
-    requires { (length bytes.now ≡ 8) × (is_formed bytes.now ≡ true) }
+#[tactic(auto, using(crate::proofs::ReplyFacts::reply_answer, crate::proofs::ReplyFacts::reply_timeout, crate::proofs::ReplyFacts::reply_not_recognised, crate::proofs::ReplyFacts::reply_no_sync), unfolding(base::specs::Bytes::byte_at))]
+fn reply_in(bytes: &[u8; 8]) -> Reply
+    requires { is_formed bytes.now ≡ true }
     ensures { reply_of bytes.now ≡ some result }
 {
-    let kind = bytes[0];
-    match kind {
+    match bytes[0] {
         0 => Reply::Answered(answer_in(bytes)),
         1 => Reply::Timeout,
         2 => Reply::NotRecognised,
@@ -81,7 +63,7 @@ pub fn is_formed_at(row: &[u8], at: usize) -> bool
     requires { at + 8 ≤ length row.now }
     ensures { result ≡ is_formed (take 8 (drop at row.now)) }
 {
-    is_formed(&row[at..at + 8])
+    is_formed(row[at..at + 8].as_array().unwrap())
 }
 
 // The reply at a place of a row, which has passed its check.
@@ -89,17 +71,18 @@ pub fn reply_at(row: &[u8], at: usize) -> Reply
     requires { (at + 8 ≤ length row.now) × (is_formed (take 8 (drop at row.now)) ≡ true) }
     ensures { reply_of (take 8 (drop at row.now)) ≡ some result }
 {
-    reply_in(&row[at..at + 8])
+    reply_in(row[at..at + 8].as_array().unwrap())
 }
 
-pub fn reply_of(bytes: &[u8]) -> Formed
+// The reply that bytes are; none where they are not formed as one.
+#[tactic(auto, using(crate::proofs::ReplyFacts::reply_short))]
+pub fn reply_of(bytes: &[u8]) -> Option<Reply>
     ensures { formed_by result ≡ reply_of bytes.now }
 {
-    if bytes.len() != 8 {
-        return Formed::NotFormed;
-    }
+    let bytes = bytes.as_array()?;
     if is_formed(bytes) {
-        return Formed::Reply(reply_in(bytes));
+        Some(reply_in(bytes))
+    } else {
+        None
     }
-    Formed::NotFormed
 }

@@ -1,4 +1,4 @@
-// The status bits of a reply.
+// The status bits of a reply. What a record holds is bounded in contracts: C hands records in.
 ghost use Rattle.std.specs.Prelude.{◌≡◌, ◌^◌, ◌<◌, ◌||◌, if◌then◌else◌};
 ghost use Rattle.reply.specs.Status.{flags_of};
 
@@ -37,7 +37,7 @@ pub const ENDED: u32 = 1 << 7;
 // The bits that a waiting record's status may have.
 pub const WAITING_BITS: u32 = NO_Q | NO_X | ERROR | TPE | LPE | ERR | DERR;
 
-// A value where a test holds, else 0.
+// A value where a test holds, else 0. A product with u32::from(holds) would say it less plainly.
 pub fn value_if(holds: bool, value: u32) -> u32
     ensures { result ≡ (if holds then value else 0) }
 {
@@ -55,18 +55,17 @@ fn answer_flags(limit: usize, c: Command, r: Record, a: Answer) -> u32
     requires { r.tries < 2 ^ 16 }
     ensures { result ≡ flags_of limit c r (Reply.Answered a) }
 {
-    let t = c.transfer;
-    let q = camac::qmode_of(t);
-    let p = r.position;
+    let q = camac::qmode_of(c.transfer);
     let low = value_if(a.tpe, TPE)
         | (value_if(has_error(a), ERROR) | (value_if(!a.x, NO_X) | value_if(!a.q, NO_Q)));
-    let leaving = qmodes::scan_leaves(q, a, p, r.left);
+    let leaving = qmodes::scan_leaves(q, a, r.position, r.left);
     let middle = value_if(a.err, ERR)
         | (value_if(leaving, SCAN_LEFT) | (value_if(a.lpe, LPE) | low));
     let spent = qmodes::is_spent(limit, q, a, r.tries);
     value_if(a.derr, DERR) | (value_if(spent, TIMEOUT) | middle)
 }
 
+#[tactic(auto, unfolding(crate::specs::Status::flags_of))]
 pub fn flags_of(limit: usize, c: Command, r: Record, reply: Reply) -> u32
     requires { r.tries < 2 ^ 16 }
     ensures { result ≡ flags_of limit c r reply }

@@ -1,9 +1,12 @@
 -- Bits of several numbers, bit by bit: a number is its half and its lowest bit, and both laws hold of the halves and, by trying them, of lowest bits.
-use Prim.Native.Nat.{ℕ, zero, suc, ◌/◌, ◌%◌, ◌<◌}
+use Prim.Native.Nat.{ℕ, zero, suc, ◌+◌, ◌-◌, ◌*◌, ◌/◌, ◌%◌, ◌≤◌, ◌<◌}
 use mathlib.Core.Path.{◌≡◌, refl, sym, ap, ap₂, ◌∙◌}
+use mathlib.Core.List.{List}
 use native.Mathlib.Omega.{arith}
 use lib.Arith.{bin_ind}
-use lib.Bits.{bit_and, bit_or, and_shr, or_shr, and_mod, or_mod, or_comm, or_add_and, and_le_l, and_le_r}
+use lib.Bits.{bit_and, bit_or, bit_xor, and_shr, or_shr, and_mod, or_mod, or_comm, or_add_and, and_le_l, and_le_r}
+use Rattle.base.specs.Bytes.{quad_at}
+use Rattle.row.specs.model.Words.{bits_over}
 
 same_number : (u v : ℕ) → u / 2 ≡ v / 2 → u % 2 ≡ v % 2 → u ≡ v
 same_number u v h o = omega arith
@@ -57,3 +60,16 @@ or_swap a b c d =
 -- no bit of both: none of either
 pub or_none : (a b : ℕ) → bit_or a b ≡ 0 → (a ≡ 0) × (b ≡ 0)
 or_none a b e = (omega (arith, or_add_and a b, and_le_r a b), omega (arith, or_add_and a b, and_le_l a b))
+
+-- bits of replies gathered one by one
+pub over_none : (negated : ℕ) (row : List ℕ) (from : ℕ) → 0 ≡ bits_over negated row from (from - from)
+unfolding bits_over
+over_none negated row from = let none : from - from ≡ 0 = omega arith in rw none
+
+pub over_more : (negated : ℕ) (row : List ℕ) (from k bits : ℕ) → from ≤ k → bits ≡ bits_over negated row from (k - from)
+    → bit_or bits (bit_xor (quad_at row (k * 8)) negated) ≡ bits_over negated row from (k + 1 - from)
+unfolding bits_over
+over_more negated row from k bits h e =
+    let next : k + 1 - from ≡ suc (k - from) = omega arith in
+    let here : from + (k - from) ≡ k = omega arith in
+    ap (λ (b : ℕ). bit_or b (bit_xor (quad_at row (k * 8)) negated)) e ∙ sym (rw (next, here))

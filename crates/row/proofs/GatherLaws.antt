@@ -1,5 +1,5 @@
 -- Flags gather: each status bit says that one of some flags is raised, so that the status bits of an OR are the OR of the status bits.
-use Prim.Native.Nat.{ℕ, zero, suc, ◌+◌, ◌-◌, ◌*◌, ◌/◌, ◌%◌, ◌^◌, ◌≤◌, ◌<◌}
+use Prim.Native.Nat.{ℕ, zero, suc, ◌+◌, ◌*◌, ◌/◌, ◌%◌, ◌^◌, ◌<◌}
 use mathlib.Core.Path.{◌≡◌, refl, sym, ap, ap₂, ◌∙◌}
 use mathlib.Core.List.{List}
 use native.Mathlib.Omega.{arith}
@@ -11,11 +11,15 @@ use lib.ListN.{get_or}
 use lib.Pow.{pow_pos}
 use Rattle.base.specs.Bytes.{quad_at, Bytes}
 use Rattle.std.specs.Prelude.{if◌then◌else◌}
-use Rattle.row.specs.model.Words.{flags_at, flag_bits, gathered_bits, raised, raised_over, raised_bits}
+use Rattle.row.specs.model.Words.{flags_at, flag_bits, bits_over, gathered_bits, raised_bits}
 use Rattle.row.proofs.Tried.{all_below, tried}
 use Rattle.row.proofs.BitLaws.{and_or, or_swap, or_none}
 
 -- One reply --------------------------------------------------------------------------------------------------------------
+
+-- with Q and X negated, each of the six sets a status bit
+abbrev raised : ℕ → ℕ
+raised f = bit_xor (f % 64) 3
 
 six_raised : (f : ℕ) → f < 64 → raised_bits (raised f) ≡ flag_bits f
 unfolding raised_bits flag_bits all_below
@@ -93,37 +97,33 @@ bits_or a b =
     (both_or (moved 4 21) upper a b (moved_or 4 21 a b)
     (both_or (moved 8 23) error a b (moved_or 8 23 a b) (ap error_bit (and_or a b 52) ∙ error_or (bit_and a 52) (bit_and b 52))))
 
-module _ (row : List ℕ) (from : ℕ) where
-  pub gathered_raised : (k : ℕ) → raised_bits (raised_over row from k) ≡ gathered_bits row from k
-  unfolding raised_bits raised_over gathered_bits
-  gathered_raised zero = refl
-  gathered_raised (suc k) = bits_or (raised_over row from k) _ ∙ ap₂ bit_or (gathered_raised k) (flags_raised (flags_at row (from + k)))
+-- the six flags among the bits of replies
+abbrev six_of : ℕ → ℕ
+six_of bits = bits / 256 % 64
 
-  -- The loop -------------------------------------------------------------------------------------------------------------
+module _ (row : List ℕ) (bytes : Bytes row) where
+  flags_in : (k : ℕ) → six_of (quad_at row (k * 8)) ≡ flags_at row k % 64
+  flags_in k =
+      let at : ℕ = k * 8 in
+      let rest : ℕ = get_or row (at + 2) 0 * 4 + get_or row (at + 3) 0 * 1024 + get_or row (at + 4) 0 * 262144 + get_or row (at + 5) 0 * 67108864
+      + get_or row (at + 6) 0 * 17179869184 + get_or row (at + 7) 0 * 4398046511104 in
+      let high : quad_at row at / 256 ≡ get_or row (at + 1) 0 + rest * 64 = omega (arith, bytes at) in
+      rw high (add-mul-mod_self_right (get_or row (at + 1) 0) rest 64)
 
-  pub raised_none : 0 ≡ raised_over row from (from - from)
-  unfolding raised_over
-  raised_none = let none : from - from ≡ 0 = omega arith in rw none
+  raised_in : (k : ℕ) → six_of (bit_xor (quad_at row (k * 8)) 768) ≡ raised (flags_at row k)
+  raised_in k =
+      let q : ℕ = quad_at row (k * 8) in
+      ap (λ (y : ℕ). y % 64) (xor_shr q 768 8) ∙ xor_mod (q / 256) 3 6 ∙ ap (λ (y : ℕ). bit_xor y 3) (flags_in k)
 
-  module _ (k bits : ℕ) (bytes : Bytes row) where
-    flags_in : quad_at row (k * 8) / 256 % 64 ≡ flags_at row k % 64
-    flags_in =
-        let at : ℕ = k * 8 in
-        let rest : ℕ = get_or row (at + 2) 0 * 4 + get_or row (at + 3) 0 * 1024 + get_or row (at + 4) 0 * 262144 + get_or row (at + 5) 0 * 67108864
-        + get_or row (at + 6) 0 * 17179869184 + get_or row (at + 7) 0 * 4398046511104 in
-        let high : quad_at row at / 256 ≡ get_or row (at + 1) 0 + rest * 64 = omega (arith, bytes at) in
-        rw high (add-mul-mod_self_right (get_or row (at + 1) 0) rest 64)
+  six_or : (a b : ℕ) → six_of (bit_or a b) ≡ bit_or (six_of a) (six_of b)
+  six_or a b = ap (λ (y : ℕ). y % 64) (or_shr a b 8) ∙ or_mod (a / 256) (b / 256) 6
 
-    pub raised_more : from ≤ k → bits / 256 % 64 ≡ raised_over row from (k - from)
-        → bit_or bits (bit_xor (quad_at row (k * 8)) 768) / 256 % 64 ≡ raised_over row from (k + 1 - from)
-    unfolding raised_over
-    raised_more h e =
-        let x : ℕ = bit_xor (quad_at row (k * 8)) 768 in
-        let next : k + 1 - from ≡ suc (k - from) = omega arith in
-        let here : from + (k - from) ≡ k = omega arith in
-        ap (λ (y : ℕ). y % 64) (or_shr bits x 8)
-        ∙ or_mod (bits / 256) (x / 256) 6
-        ∙ ap₂ bit_or e
-        (ap (λ (y : ℕ). y % 64) (xor_shr (quad_at row (k * 8)) 768 8) ∙ xor_mod (quad_at row (k * 8) / 256) 3 6
-        ∙ ap (λ (y : ℕ). bit_xor y 3) flags_in)
-        ∙ sym (rw (next, here))
+  pub gathered_raised : (from k : ℕ) → raised_bits (six_of (bits_over 768 row from k)) ≡ gathered_bits row from k
+  unfolding raised_bits bits_over gathered_bits
+  gathered_raised from zero = refl
+  gathered_raised from (suc k) =
+      let bits : ℕ = bits_over 768 row from k in
+      let next : ℕ = bit_xor (quad_at row ((from + k) * 8)) 768 in
+      ap raised_bits (six_or bits next)
+      ∙ bits_or (six_of bits) (six_of next)
+      ∙ ap₂ bit_or (gathered_raised from k) (ap raised_bits (raised_in (from + k)) ∙ flags_raised (flags_at row (from + k)))

@@ -2,19 +2,21 @@
 -- is formed, and one reply that is not makes it not formed.
 use Prim.Native.Nat.{ℕ, zero, suc, ◌+◌, ◌*◌, ◌/◌, ◌%◌, ◌≤◌, ◌<◌}
 use mathlib.Core.Path.{◌≡◌, sym, ap, ◌∙◌}
+use borrow.Author.Count.{below_more}
 use mathlib.Core.Bool.{true, false}
 use mathlib.Core.List.{List}
 use native.Mathlib.Omega.{arith}
 use native.Mathlib.Nat.{mod-eq_of_lt}
 use borrow.Author.Tests.{eq-eqb, lt-ltb, ltb-true, ltb-false}
 use lib.Dec.{ltb}
-use lib.Bits.{bit_and, and_block, and_mask, and_high}
+use lib.Bits.{bit_and, bit_xor, xor_zero_r, and_block, and_mask, and_high}
 use lib.ListN.{length, get_or, take, drop, length-take, length-drop}
 use Rattle.base.specs.Bytes.{byte_at, quad_at, Bytes}
 use Rattle.base.proofs.Tests.{on, true_not_false}
 use Rattle.reply.specs.Replies.{has_form, is_formed, replies_in, all_formed}
 use Rattle.reply.proofs.ReplyFacts.{piece_byte, piece_first, formed_is}
-use Rattle.row.specs.model.Words.{FormedOver}
+use Rattle.row.specs.model.Words.{FormedOver, bits_over}
+use Rattle.row.proofs.BitLaws.{and_or, or_none}
 use Rattle.row.proofs.RowLaws.{formed_cut, formed_end}
 use Rattle.row.proofs.WordLaws.{reply_formed, reply_eight}
 
@@ -93,6 +95,17 @@ module _ (row : List ℕ) (at : ℕ) (fits : at + 8 ≤ length row) (bytes : Byt
         here.third,
         here.top,
       )
+
+-- bits that the bits gathered over some replies lack, each of them lacks
+pub each_lacks : (row : List ℕ) (from k mask : ℕ) → bit_and (bits_over 0 row from k) mask ≡ 0
+    → (j : ℕ) → j < from + k → from ≤ j → bit_and (quad_at row (j * 8)) mask ≡ 0
+unfolding bits_over
+each_lacks row from zero mask e j l f = absurd (omega arith)
+each_lacks row from (suc k) mask e j l f =
+    let one : ℕ = bit_xor (quad_at row ((from + k) * 8)) 0 in
+    let none = or_none _ _ (sym (and_or (bits_over 0 row from k) one mask) ∙ e) in
+    below_more (λ (i : ℕ). from ≤ i → bit_and (quad_at row (i * 8)) mask ≡ 0) (from + k) (each_lacks row from k mask none.0)
+    (λ h. ap (λ (x : ℕ). bit_and x mask) (sym (xor_zero_r _)) ∙ none.1) j (omega arith) f
 
 -- The form of a row ------------------------------------------------------------------------------------------------------
 

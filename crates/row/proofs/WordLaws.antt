@@ -14,6 +14,7 @@ use lib.Bits.{bit_and, bit_xor}
 use lib.Dec.{eqb, ltb}
 use lib.ListN.{length, get_or, take, drop}
 use lib.Seq.{sets}
+use Rattle.std.specs.Prelude.{if◌then◌else◌}
 use Rattle.base.specs.Bytes.{Bytes, byte_at, short_at, long_at, short_bytes, long_bytes}
 use Rattle.base.proofs.Bools.{and_left, and_right}
 use Rattle.base.proofs.Tests.{true_not_false}
@@ -24,7 +25,7 @@ use Rattle.reply.specs.Effect.{longword_of}
 use Rattle.reply.specs.declared.replies.Reply.TheVariants.{Answered}
 use Rattle.reply.proofs.LongwordLaws.{longword_bits, narrow_same}
 use Rattle.reply.proofs.ReplyFacts.{piece_byte, piece_first, answer_read, formed_has_form, reply_answer}
-use Rattle.row.specs.model.Words.{FormedFrom, answer_by, data_in, longword_in, flags_at, WordsAt, Tops, WideTaken, words_stored}
+use Rattle.row.specs.model.Words.{FormedFrom, answer_by, data_in, longword_in, flags_at, WordsAt, WideTaken, words_stored}
 use Rattle.row.proofs.Tried.{all_below, tried}
 use Rattle.row.proofs.RowLaws.{formed_here, formed_start}
 
@@ -130,12 +131,14 @@ module _ (row : List ℕ) (byte : Bytes row) (at : ℕ) where
       let seven : at + 6 + 1 ≡ at + 7 = omega arith in
       rw (five, six, seven, last) (omega arith)
 
-  pub wide_longword : (tops : List ℕ) → Tops tops → get_or row (at + 1) 0 < 64 → get_or row (at + 7) 0 ≡ 0
-      → long_at row (at + 4) + get_or tops (bit_xor (get_or row (at + 1) 0) 3) 0 ≡ longword_in row at
+  pub wide_longword : get_or row (at + 7) 0 ≡ 0
+      → long_at row (at + 4)
+      + ((if eqb (get_or row (at + 1) 0 / 2 % 2) 1 then 2 ^ 30 else 0) + (if eqb (get_or row (at + 1) 0 % 2) 1 then 2 ^ 31 else 0))
+      ≡ longword_in row at
   unfolding longword_in
-  wide_longword tops t flags last =
+  wide_longword last =
       let same : data_in row at % 2 ^ 24 ≡ data_in row at = omega (arith, byte (at + 4), byte (at + 5), byte (at + 6)) in
-      rw (data_whole last, t.top (get_or row (at + 1) 0) flags, same) (omega arith)
+      rw (data_whole last, same) (omega arith)
 
   pub longword_below : longword_in row at < 2 ^ 32
   unfolding longword_in

@@ -5,6 +5,6 @@ pub mod reading;
 pub mod tops;
 pub mod words;
 
-pub use reading::{RowRead, gathered, read_row};
-pub use tops::top_bits;
+pub use reading::{gathered, read_row};
+pub use tops::{TopBits, top_bits};
 pub use words::{WordsRead, is_word_at, pass_words, read_word, read_words};

@@ -1,28 +1,25 @@
-// A row of replies: whether it is formed, how many answers come first, and the status bits of some of them. A reply is read as one number.
+// A row of replies: whether it is formed, how many answers come first, and the status bits of some of them. A reply is read as one number. Some
+// replies go by their numbers in the row, so that places stay those of the row.
 ghost use Rattle.std.specs.Prelude.{◌≡◌, ◌+◌, ◌-◌, ◌*◌, ◌/◌, ◌%◌, ◌<◌, ◌≤◌, eqb, length, get_or, if◌then◌else◌};
 ghost use Rattle.std.specs.Int.Bits.{bit_and};
-ghost use Rattle.row.specs.model.Words.{ReadAs, StretchReadAs, BitsOver, gathered_bits, raised_over, raised_bits};
+ghost use Rattle.row.specs.model.Words.{ReadAs, StretchReadAs, bits_over, gathered_bits, raised_bits};
 
-// What a row is: not formed, or formed, with a number of answers before any reply of another kind.
-#[derive(Clone, Copy)]
-pub enum RowRead {
-    NotFormed,
-    Answers(usize),
-}
+use reply::status::ERROR;
 
 // Bits that are zero in each formed answer: kind, flags 6 and 7, bytes 2, 3 and 7.
 const ZERO_IN_ANSWERS: u64 = 0xff00_0000_ffff_c0ff;
 
-// The bits that any of some replies has.
-fn any_bits(row: &[u8], from: usize, to: usize) -> u64
-    requires { to * 8 ≤ length row.now }
-    ensures { BitsOver row.now from to result }
+// Q and X in a reply.
+const Q_AND_X: u64 = 0x300;
+
+// The bits that any of some replies has, some of them negated.
+fn any_bits<const NEGATED: u64>(row: &[u8], from: usize, to: usize) -> u64
+    requires { (from ≤ to) × (to * 8 ≤ length row.now) }
+    ensures { result ≡ bits_over NEGATED row.now from (to - from) }
 {
     let mut bits: u64 = 0;
-    let mut k = from;
-    while k < to {
-        bits = bits | base::quad_at(row, k * 8);
-        k += 1;
+    for k in from..to {
+        bits = bits | (base::quad_at(row, k * 8) ^ NEGATED);
     }
     bits
 }
@@ -35,33 +32,31 @@ fn answers_with(row: &[u8], k: usize, answers: usize) -> usize
     if row[k * 8] == 0 {
         return answers;
     }
-    if k < answers { k } else { answers }
+    answers.min(k)
 }
 
-// Some replies one by one.
-fn read_replies(row: &[u8], from: usize, to: usize, answers: usize) -> RowRead
+// Some replies one by one: the answers that come first, none where a reply is not formed.
+fn read_replies(row: &[u8], from: usize, to: usize, answers: usize) -> Option<usize>
     requires { to * 8 ≤ length row.now }
     ensures { StretchReadAs row.now from to answers result }
 {
     let mut first = answers;
-    let mut j = from;
-    while j < to {
+    for j in from..to {
         if !reply::is_formed_at(row, j * 8) {
-            return RowRead::NotFormed;
+            return None;
         }
         first = answers_with(row, j, first);
-        j += 1;
     }
-    RowRead::Answers(first)
+    Some(first)
 }
 
 // Some replies at once if all of them are answers.
-fn read_stretch(row: &[u8], from: usize, to: usize, answers: usize) -> RowRead
-    requires { to * 8 ≤ length row.now }
+fn read_stretch(row: &[u8], from: usize, to: usize, answers: usize) -> Option<usize>
+    requires { (from ≤ to) × (to * 8 ≤ length row.now) }
     ensures { StretchReadAs row.now from to answers result }
 {
-    if any_bits(row, from, to) & ZERO_IN_ANSWERS == 0 {
-        return RowRead::Answers(answers);
+    if any_bits::<0>(row, from, to) & ZERO_IN_ANSWERS == 0 {
+        return Some(answers);
     }
     read_replies(row, from, to, answers)
 }
@@ -77,47 +72,30 @@ fn stretch_end(from: usize, count: usize) -> usize
     from + 64
 }
 
-// The row, 64 replies at a time.
-pub fn read_row(row: &[u8]) -> RowRead
+// The number of answers before any reply of another kind; none where a reply is not formed. The row is read 64 replies at a time.
+pub fn read_row(row: &[u8]) -> Option<usize>
     ensures { ReadAs row.now result }
 {
     let count = row.len() / 8;
     if row.len() % 8 != 0 {
-        return RowRead::NotFormed;
+        return None;
     }
     let mut answers = count;
+    // Counted by hand: with `step_by` a stretch takes 12 instructions more.
     let mut k: usize = 0;
     while k < count {
         let end = stretch_end(k, count);
-        let read = read_stretch(row, k, end, answers);
-        let RowRead::Answers(first) = read else {
-            return RowRead::NotFormed;
-        };
-        answers = first;
+        answers = read_stretch(row, k, end, answers)?;
         k = end;
     }
-    RowRead::Answers(answers)
-}
-
-// The bits that any of some replies has, Q and X negated.
-fn any_raised(row: &[u8], from: usize, to: usize) -> u64
-    requires { (from ≤ to) × (to * 8 ≤ length row.now) }
-    ensures { result / 256 % 64 ≡ raised_over row.now from (to - from) }
-{
-    let mut bits: u64 = 0;
-    let mut k = from;
-    while k < to {
-        bits = bits | (base::quad_at(row, k * 8) ^ 0x300);
-        k += 1;
-    }
-    bits
+    Some(answers)
 }
 
 // The bit of TPE, LPE or ERR.
 fn raised_error(g: u32) -> u32
     ensures { result ≡ (if eqb (bit_and g 52) 0 then 0 else 262144) }
 {
-    if g & 52 == 0 { 0 } else { 262144 }
+    if g & 52 == 0 { 0 } else { ERROR }
 }
 
 // The status bits of flags, Q and X negated.
@@ -133,5 +111,5 @@ pub fn gathered(row: &[u8], from: usize, to: usize) -> u32
     requires { (from ≤ to) × (to * 8 ≤ length row.now) }
     ensures { result ≡ gathered_bits row.now from (to - from) }
 {
-    raised_bits((any_raised(row, from, to) / 256 % 64) as u32)
+    raised_bits((any_bits::<Q_AND_X>(row, from, to) / 256 % 64) as u32)
 }

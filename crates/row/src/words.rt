@@ -1,11 +1,14 @@
-// Words: answers by whose flags a word moves. They are judged by a mask of flags, counted, and stored where they are read.
+// Words: answers by whose flags a word moves. They are judged by a mask of flags, counted, and stored where they are read. That
+// a row is formed stands in contracts: the row is lent on as its owner has it.
 ghost use Rattle.std.specs.Prelude.{◌≡◌, true, false, ◌+◌, ◌*◌, ◌%◌, ◌<◌, ◌≤◌, eqb, length};
 ghost use Rattle.std.specs.Int.Bits.{bit_and};
 ghost use Rattle.std.proofs.lemmas.List.Edits.{sets};
 ghost use Rattle.base.specs.Bytes.{short_bytes};
 ghost use Rattle.packing.specs.Packing.{mark_after, mark_after_words, stored};
 ghost use Rattle.reply.specs.Replies.{replies_in, all_formed};
-ghost use Rattle.row.specs.model.Words.{longword_in, flags_at, WordsAt, WideTaken, words_stored, Tops};
+ghost use Rattle.row.specs.model.Words.{longword_in, flags_at, WordsAt, WideTaken, words_stored};
+
+use crate::tops::TopBits;
 
 // Whether an answer is a word: of the flags in the mask, just Q and X are set.
 pub fn is_word_at(row: &[u8], k: usize, mask: u8) -> bool
@@ -21,14 +24,12 @@ pub fn pass_words(row: &[u8], from: usize, most: usize, mask: u8) -> usize
     ensures { (result ≤ most) × (WordsAt mask row.now from result
         × (1 ≤ most → eqb (bit_and (flags_at row.now from) mask) (mask % 4) ≡ true → 1 ≤ result)) }
 {
-    let mut k: usize = 0;
-    while k < most {
+    for k in 0..most {
         if !is_word_at(row, from + k, mask) {
             return k;
         }
-        k += 1;
     }
-    k
+    most
 }
 
 // The word of 16 bits of the answer at a place. Both bytes are read first: the back end does not know that row and buffer lie apart.
@@ -43,12 +44,12 @@ fn put_narrow(incoming: &mut [u8], to: usize, row: &[u8], at: usize)
 }
 
 // The longword that a word of 24 bits is stored as. Byte 7 of an answer is zero. The word is read first: the other order costs singles two moves.
-fn wide_at(row: &[u8], k: usize, tops: &[u32; 64]) -> u32
-    requires { (k * 8 + 8 ≤ length row.now) × ((all_formed (replies_in row.now) ≡ true) × Tops tops.now) }
+fn wide_at(row: &[u8], k: usize, tops: &TopBits) -> u32
+    requires { (k * 8 + 8 ≤ length row.now) × (all_formed (replies_in row.now) ≡ true) }
     ensures { result ≡ longword_in row.now (k * 8) }
 {
     let word = base::whole_at(row, k * 8 + 4);
-    word + tops[base::usize_of(row[k * 8 + 1] ^ 3)]
+    word + tops.of(row[k * 8 + 1])
 }
 
 // Words of 16 bits read: their number, up to `most`, each stored.
@@ -65,27 +66,18 @@ fn read_narrow(
         × ((1 ≤ most → eqb (bit_and (flags_at row.now from) mask) (mask % 4) ≡ true → 1 ≤ result)
         × (incoming.new ≡ words_stored false row.now from mark result incoming.old))) }
 {
-    let mut k: usize = 0;
-    while k < most {
+    for k in 0..most {
         if !is_word_at(row, from + k, mask) {
             return k;
         }
         put_narrow(incoming, mark + k * 2, row, (from + k) * 8);
-        k += 1;
     }
-    k
+    most
 }
 
 // Stores an answer's word of 24 bits, if it is a word: whether it is.
-fn take_wide(
-    incoming: &mut [u8],
-    to: usize,
-    row: &[u8],
-    k: usize,
-    mask: u8,
-    tops: &[u32; 64],
-) -> bool
-    requires { (to + 4 ≤ length incoming.old) × ((k * 8 + 8 ≤ length row.now) × ((all_formed (replies_in row.now) ≡ true) × Tops tops.now)) }
+fn take_wide(incoming: &mut [u8], to: usize, row: &[u8], k: usize, mask: u8, tops: &TopBits) -> bool
+    requires { (to + 4 ≤ length incoming.old) × ((k * 8 + 8 ≤ length row.now) × (all_formed (replies_in row.now) ≡ true)) }
     ensures { WideTaken mask row.now k to incoming.old result incoming.new }
 {
     if !is_word_at(row, k, mask) {
@@ -103,14 +95,15 @@ fn read_wide(
     from: usize,
     most: usize,
     mask: u8,
-    tops: &[u32; 64],
+    tops: &TopBits,
 ) -> usize
     requires { ((from + most) * 8 ≤ length row.now) × ((mark + most * 4 ≤ length incoming.old) × ((mark % 4 ≡ 0)
-        × ((all_formed (replies_in row.now) ≡ true) × Tops tops.now))) }
+        × (all_formed (replies_in row.now) ≡ true))) }
     ensures { (result ≤ most) × (WordsAt mask row.now from result
         × ((1 ≤ most → eqb (bit_and (flags_at row.now from) mask) (mask % 4) ≡ true → 1 ≤ result)
         × (incoming.new ≡ words_stored true row.now from mark result incoming.old))) }
 {
+    // Counted by hand, two a turn: with one a turn by `for`, a word takes 1.5 instructions more.
     let mut k: usize = 0;
     while k + 1 < most {
         if !take_wide(incoming, mark + k * 4, row, from + k, mask, tops) {
@@ -132,7 +125,7 @@ fn read_wide(
 }
 
 // Words read: how many, and the mark behind them.
-#[derive(Clone, Copy)]
+#[derive(Clone, Copy, Debug, PartialEq, Eq)]
 pub struct WordsRead {
     pub words: usize,
     pub mark: usize,
@@ -147,10 +140,10 @@ pub fn read_words(
     from: usize,
     most: usize,
     mask: u8,
-    tops: &[u32; 64],
+    tops: &TopBits,
 ) -> WordsRead
     requires { (1 ≤ most) × (((from + most) * 8 ≤ length row.now) × ((mark_after_words wide most mark ≤ length incoming.old)
-        × ((mark % 2 ≡ 0) × ((all_formed (replies_in row.now) ≡ true) × (WordsAt mask row.now from 1 × Tops tops.now))))) }
+        × ((mark % 2 ≡ 0) × ((all_formed (replies_in row.now) ≡ true) × WordsAt mask row.now from 1)))) }
     ensures { (1 ≤ result.words) × ((result.words ≤ most) × (WordsAt mask row.now from result.words
         × ((incoming.new ≡ words_stored wide row.now from mark result.words incoming.old)
         × (result.mark ≡ mark_after_words wide result.words mark)))) }
@@ -177,10 +170,9 @@ pub fn read_word(
     mark: usize,
     row: &[u8],
     k: usize,
-    tops: &[u32; 64],
+    tops: &TopBits,
 ) -> usize
-    requires { (mark_after wide mark ≤ length incoming.old) × ((k * 8 + 8 ≤ length row.now) × ((all_formed (replies_in row.now) ≡ true)
-        × Tops tops.now)) }
+    requires { (mark_after wide mark ≤ length incoming.old) × ((k * 8 + 8 ≤ length row.now) × (all_formed (replies_in row.now) ≡ true)) }
     ensures { (result ≡ mark_after wide mark)
         × (incoming.new ≡ stored wide (longword_in row.now (k * 8)) mark incoming.old) }
 {

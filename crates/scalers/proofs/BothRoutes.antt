@@ -10,12 +10,10 @@ use borrow.Author.Tests.{eqb-true}
 use lib.Dec.{eqb}
 use lib.ListN.{length}
 use Rattle.base.specs.Bytes.{byte_at, short_at, long_at, long_bytes, Bytes}
-use Rattle.std.specs.Prelude.{if◌then◌else◌}
+use Rattle.std.specs.Prelude.{if◌then◌else◌, Option, Some, None}
 use Rattle.base.specs.Refusals.{not_refused, refusal}
 use Rattle.base.proofs.Puts.{long_put}
 use Rattle.scalers.specs.declared.longwords.Way.{Way}
-use Rattle.scalers.specs.declared.rows.Checked.{Checked}
-use Rattle.scalers.specs.declared.rows.Checked.TheVariants.{Passes, Bad}
 use Rattle.scalers.specs.Scalers.{is_bad, digits, converted_to, longwords_in, row_of, checked_from, converted_row, Outcome, leaving, judged, convert_of}
 use Rattle.scalers.specs.BothRoutes.{back, RowPasses, EachPasses, each_converted, BothRoutes}
 use Rattle.scalers.proofs.DigitLaws.{digits_number}
@@ -78,10 +76,10 @@ row_longwords (a ∷ b ∷ c ∷ d ∷ row) h e =
 
 record Back (way : Way) (at : ℕ) (ws : List ℕ) : Type 0 where
   longwords : Longwords (map (converted_to way) ws)
-  passes : checked_from (back way) at (map (converted_to way) ws) ≡ Passes
+  passes : checked_from (back way) at (map (converted_to way) ws) ≡ None
   same : map (converted_to (back way)) (map (converted_to way) ws) ≡ ws
 
-there_and_back : (way : Way) (at : ℕ) (ws : List ℕ) → Longwords ws → checked_from way at ws ≡ Passes → Back way at ws
+there_and_back : (way : Way) (at : ℕ) (ws : List ℕ) → Longwords ws → checked_from way at ws ≡ None → Back way at ws
 unfolding checked_from
 there_and_back way at [] h e = record { longwords = tt; passes = refl; same = refl }
 there_and_back way at (w ∷ ws) h e =
@@ -98,7 +96,7 @@ there_and_back way at (w ∷ ws) h e =
 
 record Passed (way : Way) (row : List ℕ) : Type 0 where
   whole : length row % 4 ≡ 0
-  checked : checked_from way 0 (longwords_in row) ≡ Passes
+  checked : checked_from way 0 (longwords_in row) ≡ None
 
 outcome : (way : Way) (row : List ℕ) → Passed way row → convert_of way row ≡ leaving not_refused (converted_row way row)
 outcome way row p = by_check way row p.whole (sym p.checked)
@@ -107,10 +105,10 @@ passed : (way : Way) (row : List ℕ) → RowPasses way row → Passed way row
 unfolding convert_of
 passed way row e = go (eqb (length row % 4) 0) refl (checked_from way 0 (longwords_in row)) refl e
   where
-    go : (b : Bool) → eqb (length row % 4) 0 ≡ b → (r : Checked) → checked_from way 0 (longwords_in row) ≡ r
+    go : (b : Bool) → eqb (length row % 4) 0 ≡ b → (r : Option ℕ) → checked_from way 0 (longwords_in row) ≡ r
         → (if b then judged way row r else leaving (refusal 31) row).refusal.number ≡ 0 → Passed way row
-    go true t Passes q e = record { whole = eqb-true _ _ t; checked = q }
-    go true t (Bad at) q e = absurd (omega arith)
+    go true t None q e = record { whole = eqb-true _ _ t; checked = q }
+    go true t (Some at) q e = absurd (omega arith)
     go false t r q e = absurd (omega arith)
 
 -- Each longword ----------------------------------------------------------------------------------------------------------
@@ -125,7 +123,7 @@ module _ (way : Way) (a b c d : ℕ) where
   unfolding converted_row row_of longwords_in long_at short_at byte_at
   one_row e = ap (λ (o : Outcome). o.row) (sym (outcome way (a ∷ b ∷ c ∷ d ∷ []) (one e)))
 
-each_one : (way : Way) (at : ℕ) (row : List ℕ) → checked_from way at (longwords_in row) ≡ Passes
+each_one : (way : Way) (at : ℕ) (row : List ℕ) → checked_from way at (longwords_in row) ≡ None
     → EachPasses way row × (row_of (map (converted_to way) (longwords_in row)) ≡ each_converted way row)
 unfolding longwords_in row_of long_at short_at byte_at
 each_one way at [] e = (tt, refl)

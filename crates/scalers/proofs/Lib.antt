@@ -6,4 +6,5 @@ pub mod Examples
 pub mod Sums
 pub mod Carries
 pub mod Bad
+pub mod Chunks
 pub mod Loops

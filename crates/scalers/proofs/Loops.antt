@@ -1,56 +1,27 @@
--- The loops over a row. A check that has come to a place goes on as from the start; a row of which the part before a place is converted comes, with the
--- rest converted, to the row converted whole.
+-- The loop over a row: one of which the part before a place is converted comes, with the rest converted, to the row converted whole.
 use Prim.Native.Nat.{ℕ, ◌+◌, ◌%◌, ◌≤◌}
-use mathlib.Core.Path.{◌≡◌, refl, sym, ap, ◌∙◌, subst}
-use mathlib.Core.Bool.{true, false}
+use mathlib.Core.Path.{◌≡◌, sym, ap, ◌∙◌, subst}
+use mathlib.Core.Bool.{false}
 use mathlib.Core.List.{List, ◌++◌, append_assoc, append-nil}
 use native.Mathlib.Omega.{arith}
 use lib.ListN.{length, take, drop, length-append, drop_of_length-le}
 use lib.Seq.{sets, length-take-le, take_all, take_at, drop_at, sets-eq, length-sets}
+use Rattle.std.specs.Prelude.{None}
 use Rattle.base.specs.Bytes.{long_at, long_bytes}
 use Rattle.scalers.specs.declared.longwords.Way.{Way}
-use Rattle.scalers.specs.declared.rows.Checked.TheVariants.{Passes, Bad}
 use Rattle.scalers.specs.Scalers.{is_bad, converted_to, longwords_in, row_of, checked_from, converted_row}
-use Rattle.scalers.proofs.RowLaws.{longwords_more, longwords_none, converted_more, passes_both}
-
--- A check that has come to a place ---------------------------------------------------------------------------------------
-
-pub record Checking (way : Way) (row : List ℕ) (at : ℕ) : Type 0 where
-  pub whole : at % 4 ≡ 0
-  pub same : checked_from way 0 (longwords_in row) ≡ checked_from way at (longwords_in (drop at row))
-
-pub checking_none : (way : Way) (row : List ℕ) → Checking way row 0
-checking_none way row = record { whole = refl; same = refl }
-
-module _ {way : Way} {row : List ℕ} {at : ℕ} (k : Checking way row at) where
-  pub checking_bad : at + 4 ≤ length row → is_bad way (long_at row at) ≡ true → Bad at ≡ checked_from way 0 (longwords_in row)
-  unfolding checked_from
-  checking_bad h e = sym (k.same ∙ ap (checked_from way at) (longwords_more row at h) ∙ rw e)
-
-  pub checking_next : at + 4 ≤ length row → is_bad way (long_at row at) ≡ false → Checking way row (at + 4)
-  unfolding checked_from
-  checking_next h e = record {
-    whole = omega (arith, k.whole);
-    same = k.same ∙ ap (checked_from way at) (longwords_more row at h) ∙ rw e;
-  }
-
-  pub checking_end : length row ≤ at → Passes ≡ checked_from way 0 (longwords_in row)
-  unfolding checked_from
-  checking_end h = sym (k.same ∙ ap (checked_from way at) (longwords_none row at h))
+use Rattle.scalers.proofs.RowLaws.{longwords_more, converted_more, passes_both}
 
 -- A row converted up to a place ------------------------------------------------------------------------------------------
 
 pub record Converting (way : Way) (row₀ : List ℕ) (row : List ℕ) (at : ℕ) : Type 0 where
   pub whole : at % 4 ≡ 0
   pub as_long : length row ≡ length row₀
-  pub passes : checked_from way at (longwords_in (drop at row)) ≡ Passes
+  pub passes : checked_from way at (longwords_in (drop at row)) ≡ None
   pub same : take at row ++ converted_row way (drop at row) ≡ converted_row way row₀
 
-pub converting_none : (way : Way) (row : List ℕ) → checked_from way 0 (longwords_in row) ≡ Passes → Converting way row row 0
-converting_none way row e = record { whole = refl; as_long = refl; passes = e; same = refl }
-
 module _ {way : Way} {row₀ row : List ℕ} {at : ℕ} (k : Converting way row₀ row at) where
-  passed : at + 4 ≤ length row → (is_bad way (long_at row at) ≡ false) × (checked_from way (at + 4) (longwords_in (drop (at + 4) row)) ≡ Passes)
+  passed : at + 4 ≤ length row → (is_bad way (long_at row at) ≡ false) × (checked_from way (at + 4) (longwords_in (drop (at + 4) row)) ≡ None)
   passed h = passes_both way at (long_at row at) (longwords_in (drop (at + 4) row)) (ap (checked_from way at) (sym (longwords_more row at h)) ∙ k.passes)
 
   pub converting_passes : at + 4 ≤ length row → is_bad way (long_at row at) ≡ false

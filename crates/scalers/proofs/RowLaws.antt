@@ -8,11 +8,9 @@ use borrow.Author.Tests.{eq-eqb, ne_eqb}
 use lib.ListN.{length, get_or, drop, drop_of_length-le}
 use lib.Seq.{drop-cons}
 use Rattle.base.specs.Bytes.{byte_at, short_at, long_at, long_bytes}
-use Rattle.std.specs.Prelude.{if◌then◌else◌}
+use Rattle.std.specs.Prelude.{if◌then◌else◌, Option, Some, None}
 use Rattle.base.specs.Refusals.{refusal}
 use Rattle.scalers.specs.declared.longwords.Way.{Way}
-use Rattle.scalers.specs.declared.rows.Checked.{Checked}
-use Rattle.scalers.specs.declared.rows.Checked.TheVariants.{Passes, Bad}
 use Rattle.scalers.specs.Scalers.{is_bad, converted_to, longwords_in, row_of, checked_from, converted_row, leaving, judged, convert_of}
 
 -- Longwords from a place on ----------------------------------------------------------------------------------------------
@@ -46,16 +44,13 @@ unfolding converted_row row_of
 converted_more way row at h = ap (λ (ws : List ℕ). row_of (map (converted_to way) ws)) (longwords_more row at h)
 
 -- of longwords that pass, the first and those behind it pass
-pub passes_both : (way : Way) (at w : ℕ) (ws : List ℕ) → checked_from way at (w ∷ ws) ≡ Passes → (is_bad way w ≡ false) × (checked_from way (at + 4) ws ≡ Passes)
+pub passes_both : (way : Way) (at w : ℕ) (ws : List ℕ) → checked_from way at (w ∷ ws) ≡ None → (is_bad way w ≡ false) × (checked_from way (at + 4) ws ≡ None)
 unfolding checked_from
 passes_both way at w ws e = go (is_bad way w) refl e
   where
-    go : (b : Bool) → is_bad way w ≡ b → (if b then Bad at else checked_from way (at + 4) ws) ≡ Passes
-        → (is_bad way w ≡ false) × (checked_from way (at + 4) ws ≡ Passes)
-    go true q e = absurd (bad_no_pass e)
-      where
-        bad_no_pass : Bad at ≡ Passes → ⊥
-        bad_no_pass e = let z : ◌≡◌ {A = ℕ} 0 1 = ap (λ (c : Checked). elim c [ Passes ↦ 1 | Bad a ↦ 0 ]) e in omega arith
+    go : (b : Bool) → is_bad way w ≡ b → (if b then Some at else checked_from way (at + 4) ws) ≡ None
+        → (is_bad way w ≡ false) × (checked_from way (at + 4) ws ≡ None)
+    go true q e = cc
     go false q e = (q, e)
 
 -- A call -----------------------------------------------------------------------------------------------------------------
@@ -64,6 +59,6 @@ pub no_longwords : (way : Way) (row : List ℕ) → ¬ (length row % 4 ≡ 0) �
 unfolding convert_of
 no_longwords way row h = rw (ne_eqb (length row % 4) 0 h)
 
-pub by_check : (way : Way) (row : List ℕ) → length row % 4 ≡ 0 → {r : Checked} → r ≡ checked_from way 0 (longwords_in row) → convert_of way row ≡ judged way row r
+pub by_check : (way : Way) (row : List ℕ) → length row % 4 ≡ 0 → {r : Option ℕ} → r ≡ checked_from way 0 (longwords_in row) → convert_of way row ≡ judged way row r
 unfolding convert_of
 by_check way row h e = rw (eq-eqb (length row % 4) 0 h, e)

@@ -1,13 +1,11 @@
 -- Decimal scalers (document 02, E10): a row of stored longwords converted from six packed decimal digits to binary, and back.
-use Rattle.std.specs.Prelude.{ℕ, zero, suc, ◌+◌, ◌*◌, ◌/◌, ◌%◌, ◌^◌, Bool, false, ◌||◌, not, List, [], ◌∷◌, ◌++◌, map, ltb, eqb, length, if◌then◌else◌}
+use Rattle.std.specs.Prelude.{ℕ, zero, suc, ◌+◌, ◌*◌, ◌/◌, ◌%◌, ◌^◌, Bool, false, ◌||◌, not, Option, Some, None, List, [], ◌∷◌, ◌++◌, map, ltb, eqb, length, if◌then◌else◌}
 use Rattle.base.specs.Bytes.{long_at, long_bytes}
 use Rattle.base.specs.Checks.{bits}
 use Rattle.base.specs.Refusals.{not_refused, refusal}
-use Rattle.base.specs.declared.Refusal.{Refusal}
+use Rattle.base.specs.Refusals.{Refusal}
 use Rattle.scalers.specs.declared.longwords.Way.{Way}
 use Rattle.scalers.specs.declared.longwords.Way.TheVariants.{ToBinary, ToDecimal}
-use Rattle.scalers.specs.declared.rows.Checked.{Checked}
-use Rattle.scalers.specs.declared.rows.Checked.TheVariants.{Passes, Bad}
 
 -- Digits -----------------------------------------------------------------------------------------------------------------
 
@@ -70,9 +68,9 @@ row_of [] = []
 row_of (w ∷ ws) = long_bytes w ++ row_of ws
 
 -- "with the first such longword's byte offset in the row", from an offset on
-unfoldable pub checked_from : Way → ℕ → List ℕ → Checked
-checked_from way at [] = Passes
-checked_from way at (w ∷ ws) = if is_bad way w then Bad at else checked_from way (at + 4) ws
+unfoldable pub checked_from : Way → ℕ → List ℕ → Option ℕ
+checked_from way at [] = None
+checked_from way at (w ∷ ws) = if is_bad way w then Some at else checked_from way (at + 4) ws
 
 -- "Convert a row of stored longwords, lent as a part of the buffer": each of them
 unfoldable pub converted_row : Way → List ℕ → List ℕ
@@ -89,9 +87,9 @@ abbrev pub leaving : Refusal → List ℕ → Outcome
 leaving r row = record { refusal = r; row = row }
 
 -- "in each case the row is unconverted"
-abbrev pub judged : Way → List ℕ → Checked → Outcome
-judged way row Passes = leaving not_refused (converted_row way row)
-judged way row (Bad at) = leaving (record { number = 32; place = at }) row
+abbrev pub judged : Way → List ℕ → Option ℕ → Outcome
+judged way row None = leaving not_refused (converted_row way row)
+judged way row (Some at) = leaving (record { number = 32; place = at }) row
 
 -- "31 for a row that isn't whole longwords; then 32"
 unfoldable pub convert_of : Way → List ℕ → Outcome

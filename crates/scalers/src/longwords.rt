@@ -2,8 +2,8 @@
 ghost use Rattle.std.specs.Prelude.{◌≡◌, false};
 ghost use Rattle.scalers.specs.Scalers.{is_bad, converted_to};
 
-// Which way a row is converted.
-#[derive(Clone, Copy)]
+// Which way a row is converted. A case and no closure: the definitions go by the same two.
+#[derive(Clone, Copy, Debug, PartialEq, Eq)]
 pub enum Way {
     ToBinary,
     ToDecimal,
@@ -11,6 +11,7 @@ pub enum Way {
 
 // One of bits 29 to 24 set, or a digit above 9. With six more in each digit, one above 9 carries into the next and changes its lowest bit; the
 // highest digit and the bits above it are tested together.
+#[tactic(auto, using(crate::proofs::Bad::bad_decimal))]
 fn is_no_decimal(w: u32) -> bool
     ensures { result ≡ is_bad Way.ToBinary w }
 {
@@ -19,6 +20,7 @@ fn is_no_decimal(w: u32) -> bool
 }
 
 // A longword that does not pass. On the way to decimal one of bits 29 to 24 is worth more than any value that passes.
+#[tactic(auto, using(crate::proofs::Bad::bad_value))]
 pub fn is_bad(way: Way, w: u32) -> bool
     ensures { result ≡ is_bad way w }
 {

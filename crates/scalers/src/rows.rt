@@ -1,83 +1,67 @@
 // A row of longwords: checked first, then converted.
 ghost use Rattle.std.specs.Prelude.{◌≡◌, false, ◌%◌, length};
-ghost use Rattle.scalers.specs.Scalers.{longwords_in, checked_from, converted_row, convert_of};
+ghost use Rattle.std.specs.Int.{from_le_bytes, w32};
+ghost use Rattle.std.specs.List.{list_any};
+ghost use Rattle.base.specs.Refusals.{refusal_of};
+ghost use Rattle.scalers.specs.Scalers.{is_bad, longwords_in, checked_from, converted_row, convert_of};
 
 use crate::longwords::{Way, converted, is_bad};
-use base::Refusal;
+use base::{Fault, Refused};
 
-// Whether every longword passes, or where the first is that does not.
-#[derive(Clone, Copy)]
-pub enum Checked {
-    Passes,
-    Bad(usize),
-}
-
-// Whether some longword does not pass. A loop that goes on to the row's end is taken four longwords at a time by the vector unit.
-fn is_any_bad(way: Way, row: &[u8]) -> bool
-    requires { length row.now % 4 ≡ 0 }
-    ensures { result ≡ false → checked_from way 0 (longwords_in row.now) ≡ Checked.Passes }
+// Whether some longword does not pass. Gathered over the whole row, and not by `any`, which stops at the first: the vector unit takes eight
+// longwords at a time.
+fn is_any_bad(way: Way, longwords: &[[u8; 4]]) -> bool
+    ensures { result ≡ list_any (λ w. is_bad way (from_le_bytes w32 w)) longwords.now }
 {
-    let mut at: usize = 0;
-    let mut is_found = false;
-    while at < row.len() {
-        is_found = is_found | is_bad(way, base::whole_at(row, at));
-        at += 4;
-    }
-    is_found
+    longwords.iter().fold(
+        false,
+        |found, w| found | is_bad(way, u32::from_le_bytes(*w)),
+    )
 }
 
-fn check(way: Way, row: &[u8]) -> Checked
+// Where the first longword is that does not pass.
+fn first_bad(way: Way, row: &[u8]) -> Option<usize>
     requires { length row.now % 4 ≡ 0 }
     ensures { result ≡ checked_from way 0 (longwords_in row.now) }
 {
-    if !is_any_bad(way, row) {
-        return Checked::Passes;
+    let (longwords, _) = row.as_chunks::<4>();
+    if !is_any_bad(way, longwords) {
+        return None;
     }
-    let mut at: usize = 0;
-    while at < row.len() {
-        if is_bad(way, base::whole_at(row, at)) {
-            return Checked::Bad(at);
-        }
-        at += 4;
-    }
-    Checked::Passes
+    let n = longwords
+        .iter()
+        .position(|w| is_bad(way, u32::from_le_bytes(*w)))?;
+    Some(4 * n)
 }
 
 // A row that passes.
 fn convert_all(way: Way, row: &mut [u8])
-    requires { (length row.old % 4 ≡ 0) × (checked_from way 0 (longwords_in row.old) ≡ Checked.Passes) }
+    requires whole { length row.old % 4 ≡ 0 }
+    requires passes { checked_from way 0 (longwords_in row.old) ≡ None }
     ensures { row.new ≡ converted_row way row.old }
 {
-    let mut at: usize = 0;
-    while at < row.len() {
+    // By number: as_chunks_mut says nothing of what the row ends as.
+    for n in 0..row.len() / 4 {
+        let at = 4 * n;
         let w = base::whole_at(row, at);
         base::put_long(row, at, converted(way, w));
-        at += 4;
     }
 }
 
 // A call: 31, then 32, and no byte changes where one of them is answered.
-pub fn convert(way: Way, row: &mut [u8]) -> Refusal
-    ensures answer { result ≡ (convert_of way row.old).refusal }
+pub fn convert(way: Way, row: &mut [u8]) -> Result<(), Refused>
+    ensures answer { refusal_of result ≡ (convert_of way row.old).refusal }
     ensures bytes { row.new ≡ (convert_of way row.old).row }
 {
     if row.len() % 4 != 0 {
-        return Refusal {
-            number: 31,
-            place: 0,
-        };
+        return Err(Refused::from(Fault::BrokenRow));
     }
-    match check(way, row) {
-        Checked::Bad(at) => Refusal {
-            number: 32,
-            place: at,
-        },
-        Checked::Passes => {
-            convert_all(way, row);
-            Refusal {
-                number: 0,
-                place: 0,
-            }
-        }
+    if let Some(place) = first_bad(way, row) {
+        return Err(Refused {
+            fault: Fault::BadLongword,
+            place,
+        });
     }
+    convert_all(way, row);
+    Ok(())
 }

@@ -2,6 +2,7 @@
 -- arrived. The rest from an instruction on begins with that instruction, which the table has.
 use Prim.Native.Nat.{ℕ, ◌<◌}
 use mathlib.Core.Path.{◌≡◌, refl, sym, ap, ◌∙◌, subst}
+use mathlib.Core.Logic.{◌⊎◌, inl, inr}
 use mathlib.Core.Bool.{Bool, true, false}
 use mathlib.Core.List.{List, ◌∷◌}
 use mathlib.Core.Option.{some}
@@ -28,7 +29,7 @@ use Rattle.take.specs.declared.Taken.{Taken}
 use Rattle.take.specs.declared.Taken.TheVariants.{Same, Through, Ended}
 use Rattle.take.specs.declared.Advance.TheVariants.{On, At}
 use Rattle.take.proofs.Onward.{went, stays, advance_length}
-use Rattle.step.specs.model.Onward.{Going, record_in, GoingBy, operation_at, wanted_by}
+use Rattle.step.specs.model.Onward.{Going, record_in, GoingBy, wanted_by}
 use Rattle.walk.specs.declared.visits.Spot.{Spot}
 
 pub within : (list : List ℕ) (n : ℕ) (k : Spot) → OnWalk list n k → k.instruction < n
@@ -102,11 +103,9 @@ pub through_going : (list : List ℕ) (n : ℕ) (t : Taken) (r : Record) (b : Li
 through_going list n t r b e g = subst (λ (x : Taken). GoingBy list n x b) e g
 
 module _ (rest : Spot → List Visit) (t : Taken) (r : Record) (b out : List ℕ) where
-  pub resumed_same : t ≡ Same r → state_of r b out ≡ resumed (rest (spot_after (record_in t).spot)) t b out
-  resumed_same e = rw e refl
-
-  pub resumed_ended : t ≡ Ended r → state_of r b out ≡ resumed (rest (spot_after (record_in t).spot)) t b out
-  resumed_ended e = rw e refl
+  pub resumed_kept : (t ≡ Same r) ⊎ (t ≡ Ended r) → state_of r b out ≡ resumed (rest (spot_after (record_in t).spot)) t b out
+  resumed_kept (inl e) = rw e refl
+  resumed_kept (inr e) = rw e refl
 
   pub resumed_through : t ≡ Through r → (s : State) → s ≡ run_on (rest (spot_after r.spot)) (state_of r b out)
       → s ≡ resumed (rest (spot_after (record_in t).spot)) t b out
@@ -119,19 +118,7 @@ module _ (list table : List ℕ) (r : Record) (out : List ℕ) where
   unfolding wanted_by
   wanted_ended e = rw e refl
 
-  module _ (waits : r.ended ≡ false) (i : Instruction) (ei : i ≡ instruction_at list (get_or table r.spot.instruction 0)) where
-    wanted_at_lem : operation_at i r out ≡ wanted_by list table r out
-    unfolding wanted_by
-    wanted_at_lem = rw (← ei, waits)
-
-    pub wanted_camac : (c : Command) → i ≡ Camac c → operation_of c r out ≡ wanted_by list table r out
-    wanted_camac c e = ap (λ (x : Instruction). operation_at x r out) (sym e) ∙ wanted_at_lem
-
-    pub wanted_none : ((c : Command) → i ≡ Camac c → ⊥) → no_operation ≡ wanted_by list table r out
-    wanted_none k = by i k ∙ wanted_at_lem
-      where
-        by : (i : Instruction) → ((c : Command) → i ≡ Camac c → ⊥) → no_operation ≡ operation_at i r out
-        by (Camac c) k = absurd (k c refl)
-        by (Jump target) k = refl
-        by (Literal v) k = refl
-        by Halt k = refl
+  pub wanted_camac : r.ended ≡ false → (c : Command) → instruction_at list (get_or table r.spot.instruction 0) ≡ Camac c
+      → operation_of c r out ≡ wanted_by list table r out
+  unfolding wanted_by
+  wanted_camac waits c e = rw (e, waits)

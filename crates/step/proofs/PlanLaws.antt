@@ -31,7 +31,7 @@ use Rattle.worst_count.proofs.Move.{rest_room}
 use Rattle.worst_count.proofs.RunOn.{last_marks}
 use Rattle.worst_count.proofs.Admitted.{SoundPlan, prepared_plan, prepared_sound, prepared_room}
 use Rattle.worst_count.proofs.FitKept.{FitNumbers, fits_numbers}
-use Rattle.step.specs.model.Onward.{PlannedFor, PreparedFor, Going, Askable, wanted_by}
+use Rattle.step.specs.model.Onward.{PlannedFor, PreparedFor, Going, Askable, Waiting, wanted_by}
 use Rattle.step.proofs.Onward.{within, Begins, begins}
 
 module _ (list table : List ℕ) (s : Sizes) (counts : Counts) (i o : ℕ) (x : PreparedFor list table s counts i o) where
@@ -148,7 +148,13 @@ module _ (list table : List ℕ) (s : Sizes) (counts : Counts) (i o : ℕ) (x : 
 
   pub askable : (r : Record) → (r.ended ≡ true) ⊎ (fits plan r ≡ true) → Askable table r
   askable r (inl e) f = absurd (true≢false (sym e ∙ f))
-  askable r (inr h) f = let (c, rest, w) = fits_waits r h in (in_table r c rest w, omega (arith, outgoing_most r c rest w h))
+  askable r (inr h) f =
+      let (c, rest, w) = fits_waits r h in (in_table r c rest w, omega (arith, outgoing_most r c rest w h))
+
+  pub at_command : (r : Record) → (r.ended ≡ true) ⊎ (fits plan r ≡ true) → Waiting list table r
+  at_command r (inl e) f = absurd (true≢false (sym e ∙ f))
+  at_command r (inr h) f =
+      let (c, rest, w) = fits_waits r h in record { command = c; camac = command_at r c rest w }
 
   pub wanted_by_lem : (r : Record) (incoming outgoing : List ℕ) → (r.ended ≡ true) ⊎ (fits plan r ≡ true)
       → wanted_by list table r outgoing ≡ wanted_of plan (state_of r incoming outgoing)

@@ -5,25 +5,23 @@ use mathlib.Core.Path.{◌≡◌, refl, sym, ap, ap₂, ◌∙◌, subst}
 use mathlib.Core.Logic.{◌⊎◌}
 use mathlib.Core.Bool.{true, false}
 use mathlib.Core.List.{List}
-use mathlib.Core.Option.{Option, none, some}
+use mathlib.Core.Option as maybe
 use lib.ListN.{length}
 use Rattle.camac.specs.declared.words.Command.{Command}
 use Rattle.base.specs.Bytes.{Bytes}
-use Rattle.base.specs.Refusals.{not_refused, refusal}
-use Rattle.base.specs.declared.Refusal.{Refusal}
+use Rattle.std.specs.Prelude.{Result, Ok, Err, IsErrAnd}
+use Rattle.base.specs.Refusals.{not_refused, told}
+use Rattle.base.specs.declared.refusals.Refused.{Refused}
 use Rattle.listfile.specs.declared.check.Sizes.{Sizes}
 use Rattle.walk.specs.Walk.{first_spot, spot_after}
-use Rattle.walk.specs.Admission.{Plan, unfit, ready, prepare}
-use Rattle.walk.specs.Admission as admission
-use Rattle.walk.specs.model.Sums.{rest_from, plan_by, prepared_by, PlannedBy, refusal_in}
+use Rattle.walk.specs.Admission.{Plan, Prepared, ready, prepare}
+use Rattle.walk.specs.model.Sums.{rest_from, plan_by, prepared_by, PlannedBy}
 use Rattle.walk.specs.declared.Planned.{Planned}
-use Rattle.walk.specs.declared.Preparation.{Preparation}
-use Rattle.walk.specs.declared.Preparation.TheVariants as preparation
 use Rattle.walk.specs.declared.worst.Counts.{Counts}
 use Rattle.reply.specs.Replies.{reply_of}
 use Rattle.reply.specs.Effect.{State, run_on, state_of, zero_record}
 use Rattle.calls.specs.Fit.{fits}
-use Rattle.calls.specs.Calls.{Called, refused_call, taken_call, begun, start_prepared, start_of, take_at, step_reply, step_prepared, step_of, yield_of, Yields}
+use Rattle.calls.specs.Calls.{Called, refused_call, taken_call, begun, start_prepared, start_of, take_at, step_reply, step_prepared, step_of, refused_record, operation_or_none, Yields}
 use Rattle.take.specs.model.Here.{Ready, here_run, here_buffer, resumed}
 use Rattle.reply.specs.declared.records.Record.{Record}
 use Rattle.reply.specs.declared.replies.Reply.{Reply}
@@ -34,9 +32,9 @@ use Rattle.take.specs.declared.Taken.TheVariants.{Same, Through, Ended}
 use Rattle.take.proofs.TakeHere.{take_here, through}
 use Rattle.walk.specs.declared.visits.Spot.{Spot}
 use Rattle.worst_count.proofs.FitKept.{FitKept, fit_begun, fit_kept}
-use Rattle.step.specs.model.Onward.{PreparedFor, Going, record_in, GoingBy, Askable, wanted_by}
+use Rattle.step.specs.model.Onward.{PreparedFor, Going, record_in, GoingBy, Askable, Waiting, wanted_by}
 use Rattle.step.specs.model.Place.{Alive}
-use Rattle.step.proofs.PlanLaws.{sound, taken_at, ready_here, going_next, askable, wanted_by_lem}
+use Rattle.step.proofs.PlanLaws.{sound, taken_at, ready_here, going_next, askable, at_command, wanted_by_lem}
 
 -- A reply, as code takes it -------------------------------------------------------------------------------------------------
 
@@ -69,55 +67,55 @@ module _ (list table : List ℕ) (s : Sizes) (counts : Counts) (i o : ℕ) (x : 
 
 -- A call's answer, and the preparation ---------------------------------------------------------------------------------------
 
-pub yields : (y : Yield) (b : List ℕ) (called : Called) (cause : Refusal) (wanted : Operation) (r : Record) (out : List ℕ)
-    → y ≡ record { refusal = cause; run = r; wanted = wanted }
-    → called ≡ record { refusal = cause; wanted = wanted; state = state_of r b out } → Yields called y b out
-yields y b called cause wanted r out ey ec = record {
-  answer = ey ∙ ap yield_of (sym ec);
-  incoming_bytes = ap (λ (c : Called). c.state.incoming) (sym ec);
-  outgoing_bytes = ap (λ (c : Called). c.state.outgoing) (sym ec);
-}
+module _ {called : Called} {kept : Record} {b out : List ℕ} where
+  pub yields_err : {q : Refused} → called ≡ refused_call (told q) (state_of kept b out) → Yields called kept (Err q) b out
+  yields_err e = rw e (record { refusal = refl; run = refl; wanted = refl; incoming_bytes = refl; outgoing_bytes = refl })
 
-pub yields_by : (y : Yield) (b out : List ℕ) (called called' : Called) → called' ≡ called → Yields called y b out → Yields called' y b out
-yields_by y b out called called' e h = subst (λ (c : Called). Yields c y b out) (sym e) h
+  pub yields_ok : {y : Yield} {r : Record} {wanted : Operation} → y.run ≡ r → operation_or_none y.wanted ≡ wanted
+      → called ≡ record { refusal = not_refused; wanted = wanted; state = state_of r b out } → Yields called kept (Ok y) b out
+  yields_ok er ew e = rw e (record { refusal = refl; run = er; wanted = ew; incoming_bytes = refl; outgoing_bytes = refl })
 
-module _ (list : List ℕ) (i o : ℕ) (p : Preparation) (ep : prepare list i o ≡ prepared_by list p) where
-  pub prepared_ready : (table : List ℕ) → PlannedBy list table p → (q : Planned) → p ≡ preparation.Ready q → Bytes list
+  pub yields_by : {y : Result Yield Refused} {called' : Called} → called' ≡ called → Yields called kept y b out → Yields called' kept y b out
+  yields_by {y = y} e h = subst (λ (c : Called). Yields c kept y b out) (sym e) h
+
+module _ {called : Called} {kept : Record} {b out : List ℕ} where
+  -- a refusal passed on
+  pub yields_passed : {y : Result Yield Refused} (q : Refused) → IsErrAnd y (λ r. r ≡ q)
+      → called ≡ refused_call (told q) (state_of kept b out) → Yields called kept y b out
+  yields_passed {y = Ok x} q h e = absurd h
+  yields_passed {y = Err r} q h e = yields_err (e ∙ ap (λ (q : Refused). refused_call (told q) (state_of kept b out)) (sym h))
+
+module _ (list : List ℕ) (i o : ℕ) (p : Result Planned Refused) (ep : prepare list i o ≡ prepared_by list p) where
+  pub prepared_ready : (table : List ℕ) → PlannedBy list table p → (q : Planned) → p ≡ Ok q → Bytes list
       → length table ≡ 4096
       → PreparedFor list table q.sizes q.counts i o
   prepared_ready table t q e bytes n = record {
     bytes = bytes;
     entries = n;
-    planned = subst (λ (y : Preparation). PlannedBy list table y) e t;
+    planned = subst (λ (y : Result Planned Refused). PlannedBy list table y) e t;
     prepared = ep ∙ ap (prepared_by list) e;
   }
 
-  refused_by_lem : (q cause : Refusal) → p ≡ preparation.Refused q → cause ≡ refusal_in p → prepare list i o ≡ unfit cause
-  refused_by_lem q cause e er = ep ∙ ap (prepared_by list) e ∙ ap unfit (sym (er ∙ ap refusal_in e))
-
-module _ (list incoming outgoing : List ℕ) (p : Preparation) (ep : prepare list (length incoming) (length outgoing) ≡ prepared_by list p)
-    (q cause : Refusal) (e : p ≡ preparation.Refused q) (er : cause ≡ refusal_in p) (r : Record) where
-  pub start_refused : r ≡ zero_record true → start_of list incoming outgoing ≡ refused_call cause (state_of r incoming outgoing)
+module _ (list incoming outgoing : List ℕ) (p : Result Planned Refused) (ep : prepare list (length incoming) (length outgoing) ≡ prepared_by list p)
+    (q : Refused) (e : p ≡ Err q) where
+  pub start_refused : start_of list incoming outgoing ≡ refused_call (told q) (state_of refused_record incoming outgoing)
   unfolding start_of
-  start_refused ez =
-      ap (λ (y : admission.Prepared). start_prepared y incoming outgoing) (refused_by_lem list (length incoming) (length outgoing) p ep q cause e er)
-      ∙ ap (λ (y : Record). refused_call cause (state_of y incoming outgoing)) (sym ez)
+  start_refused = ap (λ (y : Prepared). start_prepared y incoming outgoing) (ep ∙ ap (prepared_by list) e)
 
-  pub step_refused : (reply : List ℕ) → step_of list (state_of r incoming outgoing) reply ≡ refused_call cause (state_of r incoming outgoing)
+  pub step_refused : (r : Record) (reply : List ℕ)
+      → step_of list (state_of r incoming outgoing) reply ≡ refused_call (told q) (state_of r incoming outgoing)
   unfolding step_of
-  step_refused reply =
-      ap (λ (y : admission.Prepared). step_prepared y reply (state_of r incoming outgoing))
-      (refused_by_lem list (length incoming) (length outgoing) p ep q cause e er)
+  step_refused r reply = ap (λ (y : Prepared). step_prepared y reply (state_of r incoming outgoing)) (ep ∙ ap (prepared_by list) e)
 
 -- a reply's bytes taken at an operation, as code takes them
 pub record Took (limit : ℕ) (c : Command) (r : Record) (reply incoming : List ℕ) (answer : Reply) (taken : Taken) (b : List ℕ) : Type 0 where
-  pub formed : reply_of reply ≡ some answer
+  pub formed : reply_of reply ≡ maybe.some answer
   pub run : taken ≡ here_run limit c answer r
   pub bytes : b ≡ here_buffer limit c answer r incoming
   pub same_length : length b ≡ length incoming
 
 pub took : {limit : ℕ} {c : Command} {r : Record} {reply incoming : List ℕ} {answer : Reply} {taken : Taken} {b : List ℕ}
-    → reply_of reply ≡ some answer → taken ≡ here_run limit c answer r → b ≡ here_buffer limit c answer r incoming → length b ≡ length incoming
+    → reply_of reply ≡ maybe.some answer → taken ≡ here_run limit c answer r → b ≡ here_buffer limit c answer r incoming → length b ≡ length incoming
     → Took limit c r reply incoming answer taken b
 took e run bytes n = record { formed = e; run = run; bytes = bytes; same_length = n }
 
@@ -130,12 +128,15 @@ module _ (list table : List ℕ) (s : Sizes) (counts : Counts) (incoming outgoin
 
   -- a record left by a call, where its state has ended or fits
   left_asked : (t : State) (n : ℕ) (r : Record) (b : List ℕ) → FitKept plan incoming outgoing n t → state_of r b outgoing ≡ t
-      → Askable table r
+      → (Askable table r × Waiting list table r)
       × (taken_call plan t ≡ record { refusal = not_refused; wanted = wanted_by list table r outgoing; state = state_of r b outgoing })
   left_asked t n r b k e =
       let f : (r.ended ≡ true) ⊎ (fits plan r ≡ true) =
       subst (λ (y : State). (y.run.ended ≡ true) ⊎ (fits plan y.run ≡ true)) (sym e) k.ended_or_fits in (
-        askable list table s counts (length incoming) (length outgoing) x r f,
+        (
+          askable list table s counts (length incoming) (length outgoing) x r f,
+          at_command list table s counts (length incoming) (length outgoing) x r f,
+        ),
         ap (λ (y : State). taken_call plan y) (sym e)
             ∙ ap (λ (w : _). record { refusal = not_refused; wanted = w; state = state_of r b outgoing })
             (sym (wanted_by_lem list table s counts (length incoming) (length outgoing) x r b outgoing f)),
@@ -143,7 +144,7 @@ module _ (list table : List ℕ) (s : Sizes) (counts : Counts) (incoming outgoin
 
   module _ (z : Record) (ez : z ≡ zero_record false) (r : Record) (b : List ℕ)
       (e : (out : List ℕ) → state_of r b out ≡ run_on (rest_from list s.count first_spot) (state_of z incoming out)) where
-    started : Askable table r
+    started : (Askable table r × Waiting list table r)
         × (taken_call plan (begun plan incoming outgoing)
         ≡ record { refusal = not_refused; wanted = wanted_by list table r outgoing; state = state_of r b outgoing })
     unfolding begun
@@ -152,13 +153,13 @@ module _ (list table : List ℕ) (s : Sizes) (counts : Counts) (incoming outgoin
         (fit_begun plan (sound list table s counts (length incoming) (length outgoing) x) incoming outgoing)
         (e outgoing ∙ ap (λ (y : Record). run_on (rest_from list s.count first_spot) (state_of y incoming outgoing)) ez)
 
-    pub start_asked : Askable table r
+    pub start_asked : Askable table r × Waiting list table r
     start_asked = started.0
 
     pub start_yields : start_of list incoming outgoing
         ≡ record { refusal = not_refused; wanted = wanted_by list table r outgoing; state = state_of r b outgoing }
     unfolding start_of
-    start_yields = ap (λ (y : admission.Prepared). start_prepared y incoming outgoing) x.prepared ∙ started.1
+    start_yields = ap (λ (y : Prepared). start_prepared y incoming outgoing) x.prepared ∙ started.1
 
   -- Step ---------------------------------------------------------------------------------------------------------------------
 
@@ -168,20 +169,11 @@ module _ (list table : List ℕ) (s : Sizes) (counts : Counts) (incoming outgoin
 
     pub step_prepared_lem : step_of list before reply ≡ step_prepared (ready plan) reply before
     unfolding step_of
-    step_prepared_lem = ap (λ (y : admission.Prepared). step_prepared y reply before) x.prepared
-
-    pub step_24 : r.ended ≡ true → step_prepared (ready plan) reply before ≡ refused_call (refusal 24) before
-    step_24 e = rw e
-
-    pub step_23 : r.ended ≡ false → fits plan r ≡ false → step_prepared (ready plan) reply before ≡ refused_call (refusal 23) before
-    step_23 e u = rw (u, e)
+    step_prepared_lem = ap (λ (y : Prepared). step_prepared y reply before) x.prepared
 
     module _ (waits : r.ended ≡ false) (c : Command) (a : Alive plan c r) where
       by_reply : step_prepared (ready plan) reply before ≡ step_reply plan (reply_of reply) before
       by_reply = rw (a.fit, waits)
-
-      pub step_22 : reply_of reply ≡ none → step_prepared (ready plan) reply before ≡ refused_call (refusal 22) before
-      step_22 e = by_reply ∙ ap (λ (y : Option Reply). step_reply plan y before) e
 
       pub step_ready : Ready c r incoming
       step_ready =
@@ -198,16 +190,16 @@ module _ (list table : List ℕ) (s : Sizes) (counts : Counts) (incoming outgoin
           arrives =
               en outgoing ∙ sym (taken_resumed list table s counts (length incoming) (length outgoing) x r c a answer incoming taken b outgoing w.run w.bytes)
 
-          left : Askable table next
+          left : (Askable table next × Waiting list table next)
               × (taken_call plan (take_at plan answer before)
               ≡ record { refusal = not_refused; wanted = wanted_by list table next outgoing; state = state_of next b' outgoing })
           left =
               left_asked (take_at plan answer before) (r.operations + 1) next b'
               (fit_kept plan (sound list table s counts (length incoming) (length outgoing) x) before a.fit answer) arrives
 
-          pub step_asked : Askable table next
+          pub step_asked : Askable table next × Waiting list table next
           step_asked = left.0
 
           pub step_yields : step_prepared (ready plan) reply before
               ≡ record { refusal = not_refused; wanted = wanted_by list table next outgoing; state = state_of next b' outgoing }
-          step_yields = by_reply ∙ ap (λ (y : Option Reply). step_reply plan y before) w.formed ∙ left.1
+          step_yields = by_reply ∙ ap (λ (y : maybe.Option Reply). step_reply plan y before) w.formed ∙ left.1

@@ -1,11 +1,12 @@
-// On along the walk, and the operation that a record waits for.
-ghost use Rattle.std.specs.Prelude.{◌≡◌, ◌≤◌, ℕ, length, get_or, List};
+// On along the walk, and the operation that a record waits for. List, table and count go side by side, as listfile:check_list says.
+ghost use Rattle.std.specs.Prelude.{◌≡◌, ◌≤◌, ◌↔◌, ℕ, IsNone, IsTrue, length, get_or, List};
 ghost use Rattle.listfile.specs.model.Table.{instruction_at, TableRight};
 ghost use Rattle.walk.specs.Walk.{spot_after};
 ghost use Rattle.walk.specs.model.Sums.{rest_from};
+ghost use Rattle.calls.specs.Calls.{operation_or_none};
 ghost use Rattle.reply.specs.Effect.{run_on, state_of};
 ghost use Rattle.take.specs.model.Here.{resumed};
-ghost use Rattle.step.specs.model.Onward.{Going, record_in, GoingBy, Askable, wanted_by};
+ghost use Rattle.step.specs.model.Onward.{Going, record_in, GoingBy, Askable, Waiting, wanted_by};
 
 use calls::Operation;
 use listfile::Instruction;
@@ -14,7 +15,7 @@ use take::{Advance, Taken};
 use walk::Spot;
 
 // Where a run comes to along the walk: its record, and the instruction at which it waits or has ended.
-#[derive(Clone, Copy)]
+#[derive(Clone, Copy, Debug, PartialEq, Eq)]
 pub struct Arrival {
     pub run: Record,
     pub instruction: Instruction,
@@ -36,20 +37,13 @@ pub fn run_on(
     let mut at = from;
     let mut here = r;
     loop {
-        let k = at.instruction;
-        let i = listfile::instruction_at(list, table[k]);
-        let next = take::advance_by(i, at, here, incoming);
-        match next {
-            Advance::On(j, x) => {
-                at = j;
-                here = x;
+        let instruction = listfile::instruction_at(list, table[at.instruction]);
+        match take::advance_by(instruction, at, here, incoming) {
+            Advance::On(next, run) => {
+                at = next;
+                here = run;
             }
-            Advance::At(x) => {
-                return Arrival {
-                    run: x,
-                    instruction: i,
-                };
-            }
+            Advance::At(run) => return Arrival { run, instruction },
         }
     }
 }
@@ -61,29 +55,26 @@ pub fn resume(list: &[u8], table: &[u16], count: usize, taken: Taken, incoming: 
     ensures { (out : List ℕ) → state_of result incoming.new out ≡ resumed (rest_from list.now count (spot_after (record_in taken).spot)) taken incoming.old out }
 {
     match taken {
-        Taken::Same(r) => r,
+        Taken::Same(r) | Taken::Ended(r) => r,
         Taken::Through(r) => {
-            let spot = r.spot;
-            let arrival = run_on(list, table, count, walk::spot_after(spot), r, incoming);
-            arrival.run
+            run_on(list, table, count, walk::spot_after(r.spot), r, incoming).run
         }
-        Taken::Ended(r) => r,
     }
 }
 
-// The operation that a run's last record waits for. A record that has ended or fits an admitted list has its instruction in the table.
-pub fn wanted_at(list: &[u8], table: &[u16], last: Record, outgoing: &[u8]) -> Operation
+// The operation that a run's last record waits for; none where the run has ended or stands at no CAMAC instruction. A record that fits an admitted
+// list has its instruction in the table, a CAMAC one.
+#[tactic(auto, unfolding(crate::specs::model::Onward::wanted_by))]
+pub fn wanted_at(list: &[u8], table: &[u16], last: Record, outgoing: &[u8]) -> Option<Operation>
     requires { Askable table.now last }
-    ensures { result ≡ wanted_by list.now table.now last outgoing.now }
+    ensures wanted { operation_or_none result ≡ wanted_by list.now table.now last outgoing.now }
+    ensures ended { Waiting list.now table.now last → (IsNone result ↔ IsTrue last.ended) }
 {
     if last.ended {
-        return calls::no_operation();
+        return None;
     }
-    let spot = last.spot;
-    let k = spot.instruction;
-    let i = listfile::instruction_at(list, table[k]);
-    let Instruction::Camac(c) = i else {
-        return calls::no_operation();
+    let Instruction::Camac(c) = listfile::instruction_at(list, table[last.spot.instruction]) else {
+        return None;
     };
-    calls::operation_of(c, last, outgoing)
+    Some(calls::operation_of(c, last, outgoing))
 }

@@ -1,5 +1,5 @@
-// An instruction of the walk found, and whether a record fits there.
-ghost use Rattle.std.specs.Prelude.{◌≡◌, length};
+// An instruction of the walk found, and whether a record fits there. List, table and sizes go side by side, as listfile:check_list says.
+ghost use Rattle.std.specs.Prelude.{◌≡◌, Some, length};
 ghost use Rattle.walk.specs.Admission.{counts_of};
 ghost use Rattle.walk.specs.Walk.{first_spot};
 ghost use Rattle.walk.specs.model.Sums.{rest_from, plan_by, PlannedRight};
@@ -11,35 +11,31 @@ use camac::Command;
 use listfile::{Instruction, Sizes};
 use packing::Marks;
 use reply::Record;
-use walk::{Counts, Planned, Spot, Turn};
+use walk::{Counts, Planned, Spot};
 
-// A CAMAC instruction of the walk with the sums before it and the worst count after it, or none at that spot.
-#[derive(Clone, Copy)]
-pub enum Found {
-    Here(Command, Counts, u64),
-    Missing,
+// A CAMAC instruction of the walk, with the sums before it and the worst count after it.
+#[derive(Clone, Copy, Debug, PartialEq, Eq)]
+pub struct Met {
+    pub command: Command,
+    pub before: Counts,
+    pub after: u64,
 }
 
-// Whether a record fits: it waits at a CAMAC instruction, or it is unfit.
-#[derive(Clone, Copy)]
-pub enum Fitting {
-    Waits(Command),
-    Unfit,
-}
-
-fn found_at(i: Instruction, before: Counts, after: u64) -> Found
+fn found_at(i: Instruction, before: Counts, after: u64) -> Option<Met>
     ensures { result ≡ found_at i before after }
 {
-    match i {
-        Instruction::Camac(c) => Found::Here(c, before, after),
-        Instruction::Jump(_) => Found::Missing,
-        Instruction::Literal(_) => Found::Missing,
-        Instruction::Halt => Found::Missing,
-    }
+    let Instruction::Camac(command) = i else {
+        return None;
+    };
+    Some(Met {
+        command,
+        before,
+        after,
+    })
 }
 
-// The visit of a spot on an admitted list's walk, with the sums before it and the worst count after it.
-fn find(list: &[u8], table: &[u16], sizes: Sizes, sought: Spot) -> Found
+// The visit of a spot on an admitted list's walk; none where no CAMAC instruction of the walk is there.
+fn find(list: &[u8], table: &[u16], sizes: Sizes, sought: Spot) -> Option<Met>
     requires { (length table.now ≡ 4096) × PlannedRight list.now table.now sizes (counts_of (plan_by list.now sizes)) }
     ensures { result ≡ find_in sizes.limit sought (rest_from list.now sizes.count first_spot) no_sums }
 {
@@ -50,48 +46,35 @@ fn find(list: &[u8], table: &[u16], sizes: Sizes, sought: Spot) -> Found
         outgoing: 0,
     };
     loop {
-        let k = at.instruction;
-        let i = listfile::instruction_at(list, table[k]);
-        let turn = walk::turn_of(i, at, sizes.limit as u64, sums);
-        let Turn::To(next, after) = turn else {
-            return Found::Missing;
-        };
-        if walk::is_same_spot(at, sought) {
-            return found_at(i, sums, after.worst);
+        let i = listfile::instruction_at(list, table[at.instruction]);
+        let turn = walk::turn_of(i, at, sizes.limit as u64, sums)?;
+        if at == sought {
+            return found_at(i, sums, turn.sums.worst);
         }
-        at = next;
-        sums = after;
+        at = turn.next;
+        sums = turn.sums;
     }
 }
 
 // Whether a record fits at what was found on an admitted list's walk.
-fn fits_here(plan: Planned, c: Command, before: Counts, after: u64, r: Record) -> bool
-    requires { Bounded plan.sizes.limit c (marks_in before) plan.counts.worst }
-    ensures { result ≡ fits_by plan.sizes.limit plan.counts.worst (Found.Here c before after) r }
+fn fits_here(plan: Planned, met: Met, r: Record) -> bool
+    requires { Bounded plan.sizes.limit met.command (marks_in met.before) plan.counts.worst }
+    ensures { result ≡ fits_by plan.sizes.limit plan.counts.worst (Some met) r }
 {
-    let sizes = plan.sizes;
-    let counts = plan.counts;
+    let worst = plan.counts.worst;
     let marks = Marks {
-        incoming: before.incoming as usize,
-        outgoing: before.outgoing as usize,
+        incoming: met.before.incoming as usize,
+        outgoing: met.before.outgoing as usize,
     };
-    let rest = base::less(counts.worst, after);
-    calls::fits_at(sizes.limit, counts.worst, c, marks, rest, r)
+    let rest = worst.saturating_sub(met.after);
+    calls::fits_at(plan.sizes.limit, worst, met.command, marks, rest, r)
 }
 
-// Whether a record fits an admitted list, and the CAMAC instruction at which it waits.
-pub fn record_fits(list: &[u8], table: &[u16], plan: Planned, r: Record) -> Fitting
+// The CAMAC instruction of an admitted list at which a record waits; none where the record does not fit.
+pub fn record_fits(list: &[u8], table: &[u16], plan: Planned, r: Record) -> Option<Command>
     requires { PlannedFor list.now table.now plan.sizes plan.counts }
     ensures { FitsBy (plan_by list.now plan.sizes) r result }
 {
-    let sizes = plan.sizes;
-    let spot = r.spot;
-    let found = find(list, table, sizes, spot);
-    let Found::Here(c, before, after) = found else {
-        return Fitting::Unfit;
-    };
-    if fits_here(plan, c, before, after, r) {
-        return Fitting::Waits(c);
-    }
-    Fitting::Unfit
+    let met = find(list, table, plan.sizes, r.spot)?;
+    fits_here(plan, met, r).then_some(met.command)
 }

@@ -16,7 +16,7 @@ use Rattle.walk.specs.Walk.{Visit, moved}
 use Rattle.take.specs.declared.Taken.TheVariants.{Through}
 use Rattle.reply.specs.Causes.{done_by, causes_of, greatest, code_of, only_nine}
 use Rattle.reply.specs.Effect.{moved_record, State, with_run, ended_at, longword_of, move_word, counted, go_on, by_causes, take_reply, state_of}
-use Rattle.take.specs.model.Here.{on_run, moved_if, bytes_if, moves_at_end, here_run, here_buffer, resumed}
+use Rattle.take.specs.model.Here.{on_run, moved_if, bytes_if, moves_at_end, moves_word, here_run, here_buffer, resumed}
 use Rattle.reply.specs.declared.replies.Reply.{Reply}
 use Rattle.reply.specs.declared.records.Record.{Record}
 use Rattle.base.proofs.Tests.{on}
@@ -29,7 +29,7 @@ module _ (limit : ℕ) (rest : List Visit) (c : Command) (reply : Reply) (r : Re
   goes_on :
       (word : ℕ) (x : Bool)
       → go_on rest c x word counting
-      ≡ resumed rest (on_run c x r (counted limit c reply r)) (bytes_if x c word r.marks.incoming incoming) outgoing
+      ≡ resumed rest (on_run c x r (moved_if x c (counted limit c reply r))) (bytes_if x c word r.marks.incoming incoming) outgoing
   unfolding go_on on_run counted move_word
   goes_on word true = on (eqb (r.left - 1) 0) (λ e. rw e) (λ e. rw e)
   goes_on word false = on (eqb (left_undone (qmode_of c.transfer) r.left) 0) (λ e. rw e) (λ e. rw e)
@@ -52,7 +52,7 @@ module _ (limit : ℕ) (rest : List Visit) (c : Command) (reply : Reply) (r : Re
       (cs : List ℕ) → causes_of limit c r reply ≡ cs
       → by_causes cs rest c (done_by (qmode_of c.transfer) reply) (longword_of reply) counting
       ≡ resumed rest (here_run limit c reply r) (here_buffer limit c reply r incoming) outgoing
-  unfolding by_causes here_run here_buffer moves_at_end counted
+  unfolding by_causes here_run here_buffer moves_word moves_at_end counted
   by_row [] e =
       let z : code_of limit c r reply ≡ 0 = code_is [] e in rw z (goes_on (longword_of reply) (done_by (qmode_of c.transfer) reply))
   by_row (code ∷ codes) e =
@@ -85,7 +85,7 @@ through limit c reply r r' h =
     passed true q = record { marks = inl (ap (λ (x : Record). x.marks) q); spot = ap (λ (x : Record). x.spot) q }
     passed false q = record { marks = inr (ap (λ (x : Record). x.marks) q); spot = ap (λ (x : Record). x.spot) q }
 
-    by_done : (x : Bool) → on_run c x r (counted limit c reply r) ≡ Through r' → Passed c r r'
+    by_done : (x : Bool) → on_run c x r (moved_if x c (counted limit c reply r)) ≡ Through r' → Passed c r r'
     by_done x h =
         on (eqb (left_after (qmode_of c.transfer) x r.left) 0)
         (λ e. passed x (is_it (moved_if x c (counted limit c reply r)) (rw e at h)))

@@ -26,9 +26,10 @@ use Rattle.qmodes.specs.Modes.{worst_words}
 use Rattle.camac.proofs.BitLaws.{command_qmode, command_wide, command_few}
 use Rattle.qmodes.proofs.Most.{worst_small}
 use Rattle.walk.specs.Worst.{worst_of}
-use Rattle.walk.specs.model.Sums.{FewWords, SumsTo, added_by, after_command, turn_of}
+use Rattle.walk.specs.model.Sums.{FewWords, SumsTo, added_by, after_command, turned, turn_of}
 use Rattle.walk.specs.declared.worst.Counts.{Counts}
-use Rattle.walk.specs.declared.visits.Turn.TheVariants.{To, Stopped}
+use Rattle.std.specs.Prelude.{None}
+use Rattle.walk.specs.declared.visits.Turn.{Turn}
 use Rattle.walk.specs.declared.visits.Spot.{Spot}
 
 -- the marks of sums, and sums of a worst count and marks
@@ -105,18 +106,24 @@ literal_sums : (limit v : ℕ) (s : Counts)
 unfolding worst_of marks_after mark_after_words
 literal_sums limit v s = ap (λ (w : ℕ). counts_by w (moved_by Incoming true (marks_in s))) (omega arith)
 
-pub turn_went : (limit : ℕ) (i : Instruction) (k : Spot) (s : Counts) (j : Spot) (s' : Counts) → turn_of limit i k s ≡ To j s'
+-- what an equation between two turns says
+turn_parts : (j j' : Spot) (s s' : Counts) → turned j s ≡ turned j' s' → (j ≡ j') × (s ≡ s')
+turn_parts j j' s s' e =
+    let t : ◌≡◌ {A = Turn} (record { next = j; sums = s }) (record { next = j'; sums = s' }) = cc in
+    (ap (λ (t : Turn). t.next) t, ap (λ (t : Turn). t.sums) t)
+
+pub turn_went : (limit : ℕ) (i : Instruction) (k : Spot) (s : Counts) (j : Spot) (s' : Counts) → turn_of limit i k s ≡ turned j s'
     → Went limit i k s j s'
 unfolding turn_of
 turn_went limit (Camac c) k s j s' e =
-    record { next = ap some (cc); sums = (let q : s' ≡ after_command limit c s = cc in q) ∙ command_sums limit c s }
+    let t = turn_parts _ _ _ _ e in record { next = ap some t.0; sums = sym t.1 ∙ command_sums limit c s }
 turn_went limit (Jump target) k s j s' e =
-    record { next = ap some (cc); sums = (let q : s' ≡ s = cc in q) ∙ jump_sums limit target s }
+    let t = turn_parts _ _ _ _ e in record { next = ap some t.0; sums = sym t.1 ∙ jump_sums limit target s }
 turn_went limit (Literal v) k s j s' e =
-    record { next = ap some (cc); sums = (let q : s' ≡ after_literal s = cc in q) ∙ literal_sums limit v s }
+    let t = turn_parts _ _ _ _ e in record { next = ap some t.0; sums = sym t.1 ∙ literal_sums limit v s }
 turn_went limit Halt k s j s' e = let z : ◌≡◌ {A = ℕ} 0 1 = cc in absurd (omega arith)
 
-pub turn_halts : (limit : ℕ) (i : Instruction) (k : Spot) (s : Counts) → turn_of limit i k s ≡ Stopped → i ≡ Halt
+pub turn_halts : (limit : ℕ) (i : Instruction) (k : Spot) (s : Counts) → turn_of limit i k s ≡ None → i ≡ Halt
 unfolding turn_of
 turn_halts limit (Camac c) k s e = let z : ◌≡◌ {A = ℕ} 0 1 = cc in absurd (omega arith)
 turn_halts limit (Jump target) k s e = let z : ◌≡◌ {A = ℕ} 0 1 = cc in absurd (omega arith)
@@ -181,18 +188,18 @@ command_sums_to limit b c s hl h x = by (direction_of c.transfer)
     by Neither = with_worst
 
 pub turn_sums_to : (limit b : ℕ) (i : Instruction) (k : Spot) (s : Counts) (j : Spot) (s' : Counts) → limit < 2 ^ 16 → FewWords i → SumsTo b s
-    → turn_of limit i k s ≡ To j s' → SumsTo (b + 2 ^ 48) s'
+    → turn_of limit i k s ≡ turned j s' → SumsTo (b + 2 ^ 48) s'
 unfolding turn_of
 turn_sums_to limit b i k s j s' hl h x e = go i h e
   where
     to : (y : Counts) → y ≡ s' → SumsTo (b + 2 ^ 48) y → SumsTo (b + 2 ^ 48) s'
     to y q g = subst (SumsTo (b + 2 ^ 48)) q g
 
-    go : (i : Instruction) → FewWords i → turn_of limit i k s ≡ To j s' → SumsTo (b + 2 ^ 48) s'
-    go (Camac c) h e = to (after_command limit c s) (cc) (command_sums_to limit b c s hl h x)
-    go (Jump target) h e = to s (cc) (sums_more (omega arith) x)
+    go : (i : Instruction) → FewWords i → turn_of limit i k s ≡ turned j s' → SumsTo (b + 2 ^ 48) s'
+    go (Camac c) h e = to (after_command limit c s) (turn_parts _ _ _ _ e).1 (command_sums_to limit b c s hl h x)
+    go (Jump target) h e = to s (turn_parts _ _ _ _ e).1 (sums_more (omega arith) x)
     go (Literal v) h e =
-        to (after_literal s) (cc) (incoming_to true 1 (omega arith) x.incoming (sums_more (omega arith) x))
+        to (after_literal s) (turn_parts _ _ _ _ e).1 (incoming_to true 1 (omega arith) x.incoming (sums_more (omega arith) x))
     go Halt h e = let z : ◌≡◌ {A = ℕ} 0 1 = cc in absurd (omega arith)
 
 -- Words of an instruction as it lies in the list ---------------------------------------------------------------------------------

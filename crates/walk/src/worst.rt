@@ -4,12 +4,12 @@ ghost use Rattle.camac.specs.Words.{command_in, words_of};
 ghost use Rattle.listfile.specs.Fields.{tag_at, first_at, second_at};
 ghost use Rattle.listfile.specs.model.Table.{FieldPassed};
 ghost use Rattle.listfile.specs.declared.field.Tag.TheVariants.{CamacTag};
-ghost use Rattle.walk.specs.model.Sums.{SumsTo, added_by, after_command};
+ghost use Rattle.walk.specs.model.Sums.{SumsTo, added_by, after_literal, after_command};
 
 use camac::{Command, Direction};
 
-// W, B and O: the worst count, and the incoming and the outgoing mark after every word of the walk.
-#[derive(Clone, Copy)]
+// Its bound stands in contracts, since admission answers it too. W, B and O: the worst count, and the incoming and the outgoing mark after every word of the walk.
+#[derive(Clone, Copy, Debug, PartialEq, Eq)]
 pub struct Counts {
     pub worst: u64,
     pub incoming: u64,
@@ -25,18 +25,25 @@ fn added_by(d: Direction, wide: bool, words: u64, worst: u64, s: Counts) -> Coun
         Direction::Incoming => Counts {
             worst,
             incoming: packing::mark_after_words(wide, words, s.incoming),
-            outgoing: s.outgoing,
+            ..s
         },
         Direction::Outgoing => Counts {
             worst,
-            incoming: s.incoming,
             outgoing: packing::mark_after_words(wide, words, s.outgoing),
+            ..s
         },
-        Direction::Neither => Counts {
-            worst,
-            incoming: s.incoming,
-            outgoing: s.outgoing,
-        },
+        Direction::Neither => Counts { worst, ..s },
+    }
+}
+
+// The sums after a literal, a longword in the incoming buffer.
+pub(crate) fn after_literal(s: Counts) -> Counts
+    requires { SumsTo (2 ^ 62) s }
+    ensures { result ≡ after_literal s }
+{
+    Counts {
+        incoming: packing::mark_after_words(true, 1, s.incoming),
+        ..s
     }
 }
 

@@ -10,7 +10,7 @@ use borrow.Author.Tests.{eqb-true, not-false}
 use lib.Dec.{eqb}
 use lib.ListN.{length, get_or}
 use Rattle.base.specs.Bytes.{byte_at, short_at, long_at}
-use Rattle.std.specs.Prelude.{if◌then◌else◌}
+use Rattle.std.specs.Prelude.{if◌then◌else◌, Some}
 use Rattle.camac.specs.Words.{command_in, words_of}
 use Rattle.camac.specs.model.Bits as bits
 use Rattle.camac.specs.declared.words.Direction.TheVariants.{Incoming}
@@ -32,7 +32,8 @@ use Rattle.reply.specs.declared.records.Record.{Record}
 use Rattle.take.specs.declared.Advance.TheVariants.{On}
 use Rattle.step.specs.model.Onward.{Going}
 use Rattle.step.proofs.Onward.{within, room_here, onward}
-use Rattle.whole_run.specs.model.Along.{Ahead, AtCommand}
+use Rattle.whole_run.specs.model.Along.{Ahead, Tabled, AtCommand}
+use Rattle.whole_run.specs.declared.along.Opening.{Opening}
 
 -- A field by its first byte --------------------------------------------------------------------------------------------------
 
@@ -177,3 +178,12 @@ module _ (list : List ℕ) (n : ℕ) (from : Spot) (first : Marks) (b₀ : List 
     same_length = e ∙ x.same_length;
     goes = λ r f out. x.goes r f out ∙ y.goes r out;
   }
+
+-- and the field there
+pub here : {list table : List ℕ} {n : ℕ} {from k : Spot} {first m : Marks} {b₀ b : List ℕ} {place : ℕ} → Tabled list table n
+    → place ≡ get_or table k.instruction 0 → Came list n from first b₀ k m b → Here list table n k place m b
+here t e x = record { right = t.right; is = e; ahead = x.ahead }
+
+-- the opening of a CAMAC instruction, as the code answers it
+pub opens : {i : Instruction} {p : Opening} → AtCommand i p.first p.words → (o : Opening) → Some p ≡ Some o → AtCommand i o.first o.words
+opens {i} {p} a o e = let same : p ≡ o = cc in subst (λ (x : Opening). AtCommand i x.first x.words) same a

@@ -1,8 +1,9 @@
 -- One turn of the loop over instructions: from a stay at an instruction over its answers and on along the walk to the next one, or to the halt. A stay
 -- stands for the record that a run has there, or with no word left for the walk behind it; each answer leads from one to the next.
-use Prim.Native.Nat.{ℕ, ◌+◌, ◌-◌, ◌*◌, ◌/◌, ◌%◌, ◌≤◌, ◌<◌}
+use Prim.Native.Nat.{ℕ, ◌+◌, ◌-◌, ◌*◌, ◌/◌, ◌%◌, ◌^◌, ◌≤◌, ◌<◌}
 use mathlib.Core.Path.{◌≡◌, refl, sym, ap, ◌∙◌, subst}
-use mathlib.Core.Bool.{true, false}
+use mathlib.Core.Bool.{false}
+use Rattle.std.specs.Prelude.{Some, None}
 use mathlib.Core.List.{List, [], ◌∷◌}
 use native.Mathlib.Omega.{arith}
 use lib.Bits.{or_zero_r}
@@ -45,10 +46,11 @@ use Rattle.answers.proofs.AnswerTurn.{standing, standing_waits, standing_through
 use Rattle.answers.proofs.VisitRoom.{rules_in_lem, passed_as}
 use Rattle.answers.proofs.AnswersKeep.{passed_kept}
 use Rattle.whole_run.specs.model.Row.{row_from, Grounds, Stage, Moves}
-use Rattle.whole_run.specs.model.Along.{Ahead, Tabled, AtCommand, Reaches, arrived, between, stay_of, stop_record}
+use Rattle.whole_run.specs.model.Along.{Ahead, Tabled, AtCommand, Reaches, arrived, stay_of}
 use Rattle.whole_run.specs.declared.along.Reached.{Reached}
+use Rattle.whole_run.specs.declared.along.Opening.{Opening}
 use Rattle.whole_run.proofs.WordsAhead.{ahead}
-use Rattle.whole_run.proofs.Turns.{moves_none, moves_as, numbers, walk_behind, last_going, reply_taken, took_stage, took_goes, decoded, decoded_as}
+use Rattle.whole_run.proofs.Turns.{moves_none, moves_as, numbers, walk_behind, last_going, reply_taken, took_stage, took_goes, alive_here, decoded, decoded_as}
 use Rattle.whole_run.proofs.Reach.{field_passed, by_tag}
 
 -- Positions --------------------------------------------------------------------------------------------------------------
@@ -124,6 +126,12 @@ module _ {list table : List ℕ} {s : Sizes} {room : ℕ} {r : Record} {place : 
       by LiteralTag e = let q = sym (by_tag list place e) ∙ found.1.0 in let z : ◌≡◌ {A = ℕ} 0 1 = cc in absurd (omega arith)
       by HaltTag e = let q = sym (by_tag list place e) ∙ found.1.0 in let z : ◌≡◌ {A = ℕ} 0 1 = cc in absurd (omega arith)
       by UnknownTag e = let q = sym (by_tag list place e) ∙ found.1.0 in let z : ◌≡◌ {A = ℕ} 0 1 = cc in absurd (omega arith)
+
+-- W and the operations of a record that waits are small
+pub operations_few : {list table : List ℕ} {s : Sizes} (b : List ℕ) (r : Record) → Grounds list table s (length b) → Stage (plan_by list s) r
+    → r.ended ≡ false → r.operations ≤ 2 ^ 60
+operations_few {list} {table} {s} b r g st waits =
+    let al = alive_here list table s (length b) g r st waits in (ahead list table s (length b) g al.0 r al.1 b refl).operations
 
 module _ {list table : List ℕ} {s : Sizes} {room : ℕ} (g : Grounds list table s room) (first second : ℕ) {r : Record}
     (al : Alive (plan_by list s) (command_in first second) r) where
@@ -275,8 +283,7 @@ module _ {z : Run} {answers : ℕ} (g : Admitted z) (answered : Answered z.row a
     alive = moved_alive z k u b g c x.command.is waits
 
     -- it stops here
-    pub word_stop : MovedTo z (stop_record z.before z.row z.from (record { spot = k; stay = u; halted = false })) u.taken b
-    unfolding stop_record
+    pub word_stop : MovedTo z (at z k u) u.taken b
     word_stop = waits
 
     -- its numbers have room
@@ -358,33 +365,32 @@ module _ {z : Run} {answers : ℕ} (g : Admitted z) (answered : Answered z.row a
         ∙ ap (λ (i : Instruction). run_on (visit i ∷ begun.rest) (state_of carried y out)) e
 
     -- the next instruction
-    module _ (q : x.halted ≡ false) where
+    module _ {o : Opening} (q : x.command ≡ Some o) where
       abbrev arriving : Command
-      arriving = command_in x.first (t.command q).second
+      arriving = command_in o.first (t.command o q).second
 
       arrived_moves : MovedTo z (at z x.spot (arrived arriving x.marks u)) u.taken y
       unfolding run_on record_at waits_for arrived
       arrived_moves =
-          standing_moves h (λ out. comes (Camac arriving) (t.command q).is out
-          ∙ rw (placed_again (position_of arriving.transfer) (command_placed x.first (t.command q).second).subaddress))
+          standing_moves h (λ out. comes (Camac arriving) (t.command o q).is out
+          ∙ rw (placed_again (position_of arriving.transfer) (command_placed o.first (t.command o q).second).subaddress))
 
       module _ {v : Stay}
-          (f : (second : ℕ) → x.words ≡ words_of (command_in x.first second).transfer → v ≡ arrived (command_in x.first second) x.marks u) where
+          (f : (second : ℕ) → o.words ≡ words_of (command_in o.first second).transfer → v ≡ arrived (command_in o.first second) x.marks u) where
         is : v ≡ arrived arriving x.marks u
-        is = f (t.command q).second (t.command q).wanted
+        is = f (t.command o q).second (t.command o q).wanted
 
         pub next_taken : v.taken ≡ u.taken
         unfolding arrived
         next_taken = ap (λ (w : Stay). w.taken) is
 
-        pub word_next : length y ≡ length b → BeforeWord z x.first x.spot v y
+        pub word_next : length y ≡ length b → BeforeWord z o.first x.spot v y
         unfolding arrived
         word_next kept =
-            rw is (moved_stands z x.spot (arrived arriving x.marks u) y g (t.command q) arrived_moves h.onward (kept ∙ h.kept))
+            rw is (moved_stands z x.spot (arrived arriving x.marks u) y g (t.command o q) arrived_moves h.onward (kept ∙ h.kept))
 
     -- the halt
-    pub standing_halt : {v : Stay} → x.halted ≡ true → v ≡ between x.marks u
-        → MovedTo z (stop_record z.before z.row z.from (record { spot = x.spot; stay = v; halted = true })) v.taken y
-        × ((z.from ≤ v.taken) × (v.position < 4096))
-    unfolding run_on stop_record record_at ended_at between
-    standing_halt q ev = rw ev (standing_moves h (comes Halt (t.halt q)), (h.onward, omega arith))
+    pub standing_halt : x.command ≡ None
+        → MovedTo z (ended_at x.spot 0 (at z x.spot (record u { position = 0; marks = x.marks }))) u.taken y
+    unfolding run_on record_at ended_at
+    standing_halt q = standing_moves h (comes Halt (t.halt q))

@@ -11,7 +11,7 @@ use native.Mathlib.Omega.{arith}
 use lib.ListN.{length, take, drop}
 use Rattle.std.specs.Prelude.{if◌then◌else◌}
 use Rattle.base.specs.Refusals.{not_refused, refusal}
-use Rattle.base.specs.declared.Refusal.{Refusal}
+use Rattle.base.specs.Refusals.{Refusal}
 use Rattle.walk.specs.Admission.{Plan, unfit, ready, prepare}
 use Rattle.reply.specs.Replies.{reply_of, replies_in, all_formed}
 use Rattle.reply.specs.Effect.{State}

@@ -5,17 +5,21 @@ use mathlib.Core.Bool.{true, false}
 use mathlib.Core.List.{List, []}
 use native.Mathlib.Omega.{arith}
 use lib.ListN.{length}
-use Rattle.base.specs.Refusals.{not_refused, refusal}
-use Rattle.base.specs.declared.Refusal.{Refusal}
+use Rattle.std.specs.Prelude.{Option, Some, None, Result, Ok, Err, IsErrAnd}
+use Rattle.std.specs.Option.{ok_or}
+use Rattle.base.specs.Refusals.{refusal, told, RefusedAtZero}
+use Rattle.base.specs.declared.refusals.Fault.{Fault}
+use Rattle.base.specs.declared.refusals.Fault.TheVariants.{ReplyNotFormed}
+use Rattle.base.specs.Refusals.{Refusal}
+use Rattle.base.specs.declared.refusals.Refused.{Refused}
 use Rattle.listfile.specs.declared.check.Sizes.{Sizes}
 use Rattle.walk.specs.Admission.{prepare}
-use Rattle.walk.specs.model.Sums.{rest_from, plan_by, prepared_by, refusal_in}
+use Rattle.walk.specs.model.Sums.{rest_from, plan_by, prepared_by}
+use Rattle.walk.specs.declared.Planned.{Planned}
 use Rattle.walk.specs.declared.worst.Counts.{Counts}
-use Rattle.walk.specs.declared.Preparation.{Preparation}
-use Rattle.walk.specs.declared.Preparation.TheVariants.{Refused}
 use Rattle.reply.specs.Replies.{replies_in, all_formed}
 use Rattle.reply.specs.Effect.{State, run_on, state_of, zero_record}
-use Rattle.calls.specs.Calls.{refused_record, begun, RunThrough, run_of, Runs}
+use Rattle.calls.specs.Calls.{begun, refused_run, run_of, Runs}
 use Rattle.reply.specs.declared.records.Record.{Record}
 use Rattle.calls.specs.declared.Ran.{Ran}
 use Rattle.worst_count.proofs.Admitted.{SoundPlan}
@@ -26,23 +30,25 @@ use Rattle.whole_run.proofs.StepsAreTakes.{run_refused, run_unformed, run_takes}
 use Rattle.whole_run.proofs.WordsAhead.{grounds_sound}
 use Rattle.walk.specs.Walk.{first_spot}
 
+-- the error that stands for none
+pub error_of : {A E : Type 0} {o : Option A} (e : E) {f : E} → Err f ≡ ok_or o e → o ≡ None → f ≡ e
+error_of {o = Some x} e p q = absurd (cc)
+error_of {o = None} e p q = cc
+
 module _ (list incoming outgoing row : List ℕ) where
   -- what a whole run answers, by what it is
-  abbrev Answers : Ran → List ℕ → Type 0
+  abbrev Answers : Result Ran Refused → List ℕ → Type 0
   Answers ran after = Runs (run_of list incoming outgoing row) ran after outgoing
 
-  answers : (x : RunThrough) (ran : Ran) (after : List ℕ) → run_of list incoming outgoing row ≡ x → Runs x ran after outgoing → Answers ran after
-  answers x ran after e h = subst (λ (y : RunThrough). Runs y ran after outgoing) (sym e) h
+  answers_refused : (cause : Refusal) → run_of list incoming outgoing row ≡ refused_run cause incoming outgoing → {r : Refused} → told r ≡ cause
+      → Answers (Err r) incoming
+  answers_refused cause e eq = rw e (record { refusal = eq; taken = refl; run = refl; incoming_bytes = refl; outgoing_bytes = refl })
 
-  abbrev refused_by : Refusal → Ran
-  refused_by r = record { refusal = r; taken = 0; run = refused_record }
-
-  pub whole_refused : (x : Preparation) (r s : Refusal) (ran : Ran) → prepare list (length incoming) (length outgoing) ≡ prepared_by list x
-      → x ≡ Refused r
-      → s ≡ refusal_in x → ran ≡ refused_by s → Answers ran incoming
-  whole_refused x r s ran e is es er =
-      answers _ ran incoming (run_refused list incoming outgoing row r (e ∙ ap (prepared_by list) is))
-      (record { answer = er ∙ ap refused_by (es ∙ ap refusal_in is); incoming_bytes = refl; outgoing_bytes = refl })
+  pub whole_refused : (x : Result Planned Refused) (q : Refused) → prepare list (length incoming) (length outgoing) ≡ prepared_by list x → x ≡ Err q
+      → {ran : Result Ran Refused} → IsErrAnd ran (λ r. r ≡ q) → Answers ran incoming
+  whole_refused x q e is {ran = Ok y} h = absurd h
+  whole_refused x q e is {ran = Err r} h =
+      answers_refused (told q) (run_refused list incoming outgoing row (told q) (e ∙ ap (prepared_by list) is)) (ap told h)
 
   module _ (table : List ℕ) (s : Sizes) (counts : Counts) (x : PreparedFor list table s counts (length incoming) (length outgoing)) where
     pub grounds : Grounds list table s (length incoming)
@@ -51,9 +57,11 @@ module _ (list incoming outgoing row : List ℕ) where
     sound : SoundPlan (plan_by list s)
     sound = grounds_sound list table s (length incoming) grounds
 
-    pub whole_unformed : (ran : Ran) → all_formed (replies_in row) ≡ false → ran ≡ refused_by (refusal 22) → Answers ran incoming
-    whole_unformed ran e er = answers _ ran incoming (run_unformed list incoming outgoing row (plan_by list s) x.prepared e)
-        (record { answer = er; incoming_bytes = refl; outgoing_bytes = refl })
+    pub whole_unformed : all_formed (replies_in row) ≡ false → {ran : Result Ran Refused} {f : Fault} → IsErrAnd ran (RefusedAtZero f)
+        → f ≡ ReplyNotFormed → Answers ran incoming
+    whole_unformed e {ran = Ok x} h ef = absurd h
+    whole_unformed e {ran = Err r} h ef =
+        answers_refused (refusal 22) (run_unformed list incoming outgoing row (plan_by list s) x.prepared e) (rw (h, ef))
 
     -- the start, from a record that is all zero
     module _ (z first : Record) (b : List ℕ) (ez : z ≡ zero_record false)
@@ -69,10 +77,10 @@ module _ (list incoming outgoing row : List ℕ) where
 
       pub whole_run : all_formed (replies_in row) ≡ true → (r : Record) (taken : ℕ) (after : List ℕ)
           → ((out : List ℕ) → row_from (plan_by list s) row 0 (state_of first b out) ≡ stopped_at (taken * 8) (state_of r after out))
-          → Answers (record { refusal = not_refused; taken = taken; run = r }) after
+          → Answers (Ok (record { run = r; taken = taken })) after
       whole_run formed r taken after e =
           let n : taken ≡ taken * 8 / 8 = omega arith in
-          answers (stopped_at (taken * 8) (state_of r after outgoing)) _ after
-          (run_takes list incoming outgoing row (plan_by list s) x.prepared sound formed
-          ∙ ap (row_from (plan_by list s) row 0) (sym (started outgoing)) ∙ e outgoing)
-          (record { answer = ap (λ (k : ℕ). record { refusal = not_refused; taken = k; run = r }) n; incoming_bytes = refl; outgoing_bytes = refl })
+          let is : run_of list incoming outgoing row ≡ stopped_at (taken * 8) (state_of r after outgoing) =
+          run_takes list incoming outgoing row (plan_by list s) x.prepared sound formed
+          ∙ ap (row_from (plan_by list s) row 0) (sym (started outgoing)) ∙ e outgoing in
+          rw is (record { refusal = refl; taken = n; run = refl; incoming_bytes = refl; outgoing_bytes = refl })

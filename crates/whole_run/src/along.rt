@@ -5,48 +5,49 @@ ghost use Rattle.camac.specs.model.Bits.{Passes};
 ghost use Rattle.walk.specs.Walk.{moved_by};
 ghost use Rattle.walk.specs.model.Sums.{plan_by};
 ghost use Rattle.whole_run.specs.model.Row.{Grounds, Stage, Moves};
-ghost use Rattle.row.specs.model.Words.{FormedFrom, Answered, Tops};
-ghost use Rattle.answers.specs.model.Visit.{place_of};
-ghost use Rattle.whole_run.specs.model.Along.{Ahead, Tabled, Reaches, arrived, between, stay_of, stop_record};
+ghost use Rattle.row.specs.model.Words.{FormedFrom, Answered};
+ghost use Rattle.answers.specs.model.Visit.{place_of, record_at};
+ghost use Rattle.whole_run.specs.model.Along.{Ahead, Tabled, Reaches, arrived, stay_of};
 
 use answers::{Stay, visit};
+use calls::Ran;
 use camac::Direction;
 use listfile::Sizes;
 use packing::Marks;
 use qmodes::ScanPosition;
 use reply::Record;
+use row::{TopBits, gathered};
 use walk::Spot;
 
-// Tags of an admitted list: a CAMAC instruction's is below these, and one that is neither is a literal's.
+// Tags of an admitted list, as bytes: a CAMAC instruction's is below these, and one that is neither is a literal's, so that one test finds the
+// commonest field.
 const JUMP: u8 = 0x20;
 
 const HALT: u8 = 0x2F;
 
-// Where a run comes to along the walk: the halt, or a CAMAC instruction with its first longword and the words it wants.
-#[derive(Clone, Copy)]
+// A CAMAC instruction by its first longword, and the words it wants.
+#[derive(Clone, Copy, Debug, PartialEq, Eq)]
+pub struct Opening {
+    pub first: u32,
+    pub words: usize,
+}
+
+// Where a run comes to along the walk: a CAMAC instruction, or the halt.
+#[derive(Clone, Copy, Debug, PartialEq, Eq)]
 pub struct Reached {
     pub spot: Spot,
     pub marks: Marks,
-    pub first: u32,
-    pub words: usize,
-    pub halted: bool,
+    pub command: Option<Opening>,
 }
 
-// Where a run stops: at a reply that is neither a word nor a wait, at the end of the answers, or at the halt.
-#[derive(Clone, Copy)]
-pub struct Stop {
-    pub spot: Spot,
-    pub stay: Stay,
-    pub halted: bool,
-}
-
+// The marks after a literal. reply:moved_marks would ask of both marks what is needed of one.
 fn after_literal(m: Marks) -> Marks
     requires { m.incoming < 2 ^ 63 }
     ensures { result ≡ moved_by Direction.Incoming true m }
 {
     Marks {
         incoming: packing::mark_after(true, m.incoming),
-        outgoing: m.outgoing,
+        ..m
     }
 }
 
@@ -65,92 +66,102 @@ fn reach(
     let mut at = from;
     let mut marks = first;
     loop {
-        let k = at.instruction;
-        let place = base::usize_of_short(table[k]);
+        let place = usize::from(table[at.instruction]);
         let byte = list[place];
         if byte < JUMP {
             let longword = listfile::first_at(list, place);
-            return Reached {
-                spot: at,
-                marks: marks,
+            let opening = Opening {
                 first: longword,
                 words: listfile::words_at(list, place, longword) as usize,
-                halted: false,
+            };
+            return Reached {
+                spot: at,
+                marks,
+                command: Some(opening),
             };
         }
         if byte == HALT {
             return Reached {
                 spot: at,
-                marks: marks,
-                first: 0,
-                words: 0,
-                halted: true,
+                marks,
+                command: None,
             };
         }
         if byte == JUMP {
             at = walk::jump_to(listfile::target_at(list, place), at);
         } else {
-            let mark = marks.incoming;
-            packing::store(incoming, mark, true, base::whole_at(list, place + 3));
+            packing::store(
+                incoming,
+                marks.incoming,
+                true,
+                base::whole_at(list, place + 3),
+            );
             marks = after_literal(marks);
             at = walk::spot_after(at);
         }
     }
 }
 
-// A position as one number.
+// A position as one number. The one of qmodes is its own, in 32 bits.
 fn place_of(p: ScanPosition) -> usize
     ensures { result ≡ place_of p }
 {
-    base::usize_of(p.station) * 16 + base::usize_of(p.subaddress)
+    usize::from(p.station) * 16 + usize::from(p.subaddress)
 }
 
-fn arrive(first: u32, words: usize, marks: Marks, here: Stay) -> Stay
-    requires { Passes first }
-    ensures { (second : ℕ) → words ≡ words_of (command_in first second).transfer → result ≡ arrived (command_in first second) marks here }
+fn arrive(opening: Opening, marks: Marks, here: Stay) -> Stay
+    requires { Passes opening.first }
+    ensures { (second : ℕ) → opening.words ≡ words_of (command_in opening.first second).transfer
+        → result ≡ arrived (command_in opening.first second) marks here }
 {
-    let note = here.note;
     Stay {
-        taken: here.taken,
-        left: words,
+        left: opening.words,
         tries: 0,
-        position: camac::place_in(first),
-        marks: marks,
-        note: note,
+        position: camac::place_in(opening.first),
+        marks,
+        ..here
     }
 }
 
-fn leave(marks: Marks, here: Stay) -> Stay
-    ensures { result ≡ between marks here }
-{
-    let note = here.note;
-    Stay {
-        taken: here.taken,
-        left: 0,
-        tries: 0,
-        position: 0,
-        marks: marks,
-        note: note,
-    }
-}
-
+#[tactic(auto, unfolding(crate::specs::model::Along::stay_of))]
 fn stay_of(r: Record, taken: usize) -> Stay
     ensures { result ≡ stay_of r taken }
 {
-    let p = r.position;
-    let marks = r.marks;
-    let note = r.note;
     Stay {
-        taken: taken,
+        taken,
         left: r.left,
         tries: r.tries,
-        position: place_of(p),
-        marks: marks,
-        note: note,
+        position: place_of(r.position),
+        marks: r.marks,
+        note: r.note,
     }
 }
 
-// On over words and waits and along the walk, from a record that waits at an instruction for reply number `from` of the row.
+// The record of a stay at a spot, by the record before reply number `from` of the row.
+#[tactic(auto, unfolding(answers::specs::model::Visit::record_at))]
+fn record_of(before: Record, from: usize, spot: Spot, stay: Stay, row: &[u8]) -> Record
+    requires { (from ≤ stay.taken) × ((stay.taken * 8 ≤ length row.now) × ((before.operations ≤ 2 ^ 60) × (stay.position < 4096))) }
+    ensures { result ≡ record_at before row.now from spot stay }
+{
+    Record {
+        ended: false,
+        spot,
+        left: stay.left,
+        tries: stay.tries,
+        position: ScanPosition {
+            // A position is below 4,096: no bits are lost.
+            station: (stay.position / 16) as u8,
+            subaddress: (stay.position % 16) as u8,
+        },
+        marks: stay.marks,
+        operations: before.operations + (stay.taken - from) as u64,
+        status: before.status | gathered(row, from, stay.taken),
+        note: stay.note,
+    }
+}
+
+// On over words and waits and along the walk, from a record that waits at an instruction for reply number `from` of the row, to a reply that is
+// neither, to the end of the answers or to the halt.
 pub(crate) fn run_answers(
     list: &[u8],
     table: &[u16],
@@ -160,46 +171,42 @@ pub(crate) fn run_answers(
     incoming: &mut [u8],
     row: &[u8],
     answers: usize,
-    tops: &[u32; 64],
-) -> Stop
+    tops: &TopBits,
+) -> Ran
     requires { Grounds list.now table.now sizes (length incoming.old) × ((FormedFrom row.now (from * 8) × (Stage (plan_by list.now sizes) r × (r.ended ≡ false)))
-        × Answered row.now answers) × Tops tops.now }
-    ensures { Moves (plan_by list.now sizes) row.now r (from * 8) incoming.old
-        (stop_record r row.now from result) (result.stay.taken * 8) incoming.new × ((from ≤ result.stay.taken) × (result.stay.position < 4096)) }
+        × Answered row.now answers) }
+    ensures { Moves (plan_by list.now sizes) row.now r (from * 8) incoming.old result.run (result.taken * 8) incoming.new × (from ≤ result.taken) }
 {
     let mut spot = r.spot;
-    let begin = spot.instruction;
-    let mut longword = listfile::first_at(list, base::usize_of_short(table[begin]));
+    let mut longword = listfile::first_at(list, usize::from(table[spot.instruction]));
     let mut here = stay_of(r, from);
     loop {
         here = visit(longword, sizes.limit, here, incoming, row, answers, tops);
+        let taken = here.taken;
         if here.left != 0 {
-            return Stop {
-                spot: spot,
-                stay: here,
-                halted: false,
-            };
+            let run = record_of(r, from, spot, here, row);
+            return Ran { run, taken };
         }
-        let marks = here.marks;
         let next = reach(
             list,
             table,
             sizes.count,
             walk::spot_after(spot),
-            marks,
+            here.marks,
             incoming,
         );
-        let reached = next.spot;
-        let behind = next.marks;
-        if next.halted {
-            return Stop {
-                spot: reached,
-                stay: leave(behind, here),
-                halted: true,
+        let Some(opening) = next.command else {
+            let stay = Stay {
+                position: 0,
+                marks: next.marks,
+                ..here
             };
-        }
-        spot = reached;
-        longword = next.first;
-        here = arrive(next.first, next.words, behind, here);
+            let last = record_of(r, from, next.spot, stay, row);
+            let run = reply::ended_at(next.spot, 0, last);
+            return Ran { run, taken };
+        };
+        spot = next.spot;
+        longword = opening.first;
+        here = arrive(opening, next.marks, here);
     }
 }

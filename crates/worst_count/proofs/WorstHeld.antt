@@ -12,7 +12,7 @@ use Rattle.walk.specs.Worst.{worst_over}
 use Rattle.walk.specs.Admission.{Plan, ready, prepare, counts_of, admit_of}
 use Rattle.walk.proofs.MarksGrow.{BelowMarks}
 use Rattle.walk.specs.declared.worst.Counts.{Counts}
-use Rattle.walk.specs.declared.Admission.TheVariants.{Admitted}
+use Rattle.walk.specs.Admission.{Admitted}
 use Rattle.reply.specs.Effect.{State}
 use Rattle.calls.specs.Calls.{Called, start_of}
 use Rattle.worst_count.specs.WorstCount.{Calls, finds, start_state, Holds}

@@ -19,7 +19,7 @@ use Rattle.walk.specs.Walk.{Visit}
 use Rattle.walk.specs.Worst.{worst_over}
 use Rattle.walk.specs.Admission.{Plan, ready, prepare, counts_of, admit_of}
 use Rattle.walk.specs.declared.worst.Counts.{Counts}
-use Rattle.walk.specs.declared.Admission.TheVariants.{Admitted}
+use Rattle.walk.specs.Admission.{Admitted}
 use Rattle.reply.specs.Replies.{answer_in, has_form, reply_of}
 use Rattle.qmodes.specs.Modes.{done, scan_leaves, spent, no_x, no_qin_stop}
 use Rattle.reply.specs.Causes.{closed_by, causes_of}

@@ -1,5 +1,5 @@
 -- Document 01's cases K1 to K12 and its worked run of camrun, as equations over the definitions. Lists are given as bytes.
-use Rattle.std.specs.Prelude.{ℕ, ◌*◌, ◌≡◌, true, false, List, [], ◌∷◌, ◌++◌, replicate}
+use Rattle.std.specs.Prelude.{ℕ, ◌*◌, ◌≡◌, true, false, List, [], ◌∷◌, ◌++◌, replicate, Ok}
 use Rattle.base.specs.Refusals.{not_refused}
 use Rattle.qmodes.specs.Scan.{positions, stations}
 use Rattle.camac.specs.Words.{words_of, direction_of, position_of, decode_of}
@@ -8,7 +8,6 @@ use Rattle.camac.specs.declared.words.Transfer.TheVariants.{Single, Block}
 use Rattle.camac.specs.declared.words.Command.{Command}
 use Rattle.camac.specs.declared.words.Direction.{Direction}
 use Rattle.camac.specs.declared.words.Direction.TheVariants.{Incoming}
-use Rattle.camac.specs.declared.words.Decoded.TheVariants.{Carried}
 use Rattle.packing.specs.Packing.{bytes_of}
 use Rattle.walk.specs.Admission.{admit_of, numbers_of}
 use Rattle.reply.specs.Status.{code_in}
@@ -57,7 +56,7 @@ admission list = numbers_of (admit_of list 65536 65536)
 
 -- the longwords of a field of some length decode to a command; its direction, its words wanted
 pub record Decodes (len first second : ℕ) (c : Command) (d : Direction) (n : ℕ) : Type 0 where
-  pub command : decode_of len first second ≡ Carried c
+  pub command : decode_of len first second ≡ Ok c
   pub direction : direction_of c.transfer ≡ d
   pub words : words_of c.transfer ≡ n
 

@@ -11,7 +11,7 @@ use Rattle.listfile.specs.declared.field.Instruction.TheVariants.{Camac, Jump, L
 use Rattle.walk.specs.Walk.{Visit, on_from}
 use Rattle.walk.specs.Admission.{Plan, ready, prepare, admit_of}
 use Rattle.walk.specs.declared.worst.Counts.{Counts}
-use Rattle.walk.specs.declared.Admission.TheVariants.{Admitted}
+use Rattle.walk.specs.Admission.{Admitted}
 use Rattle.reply.specs.Replies.{reply_of, is_formed}
 use Rattle.reply.specs.Causes.{done_by, closed_by, code_of}
 use Rattle.reply.specs.Status.{code_in}

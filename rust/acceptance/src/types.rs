@@ -85,12 +85,39 @@ fn is_type_name(name: &str) -> bool {
     name.starts_with(char::is_uppercase) && name.contains(char::is_lowercase)
 }
 
+/// A `ghost use` line cut to the names that the ghost fields of the types mention; of an
+/// operator as `◌≡◌` its sign counts. None where it has none of them.
+fn cut_ghost_use(line: &str, types: &str) -> Option<String> {
+    let ghosts: Vec<&str> = types
+        .lines()
+        .filter(|line| line.trim_start().starts_with("ghost "))
+        .collect();
+    let (path, names) = line.trim_end_matches(';').split_once(".{")?;
+    let is_kept = |name: &&str| {
+        let sign = name.trim_matches('◌');
+        let is_named = |ghost: &&str| match sign == *name {
+            true => words(ghost).any(|word| word == *name),
+            false => ghost.contains(sign),
+        };
+        ghosts.iter().any(|ghost| is_named(&ghost))
+    };
+    let kept: Vec<&str> = names
+        .trim_end_matches('}')
+        .split(',')
+        .map(str::trim)
+        .filter(is_kept)
+        .collect();
+    (!kept.is_empty()).then(|| format!("{path}.{{{}}};", kept.join(", ")))
+}
+
 /// A `use` item cut to what it hands on or brings in: to the types that a module hands on, or
 /// to the names that the types mention.
 fn needed_use(item: &Item, types: &str) -> Option<String> {
     let line = item.lines.iter().map(|line| line.trim());
     let line = line.collect::<Vec<_>>().join(" ");
-    if line.starts_with("pub use ") {
+    if line.starts_with("ghost use ") {
+        cut_ghost_use(&line, types)
+    } else if line.starts_with("pub use ") {
         cut_use(&line, is_type_name)
     } else {
         cut_use(&line, |name| words(types).any(|word| word == name))
@@ -112,7 +139,7 @@ pub fn of(text: &str) -> String {
     for item in &all {
         match keyword(item) {
             "mod" => heads.push(item.lines.join("\n")),
-            "use" => heads.extend(needed_use(item, &types)),
+            "use" | "ghost" => heads.extend(needed_use(item, &types)),
             _ => {}
         }
     }
@@ -192,6 +219,32 @@ mod parts;
 pub use parts::Part;
 pub use words::{Address, Word};
 ";
+
+    #[test]
+    fn what_ghost_fields_use() {
+        let source = "\
+ghost use Rattle.std.specs.Prelude.{◌≡◌, ◌<◌, true, length};
+ghost use Rattle.a.specs.B.{is_queue, waiting};
+
+// Bytes that are a queue.
+pub struct Queue<'a> {
+    pub bytes: &'a mut [u8],
+    ghost limits: { is_queue bytes.now ≡ true },
+}
+";
+        let alone = "\
+// The types alone.
+ghost use Rattle.std.specs.Prelude.{◌≡◌, true};
+ghost use Rattle.a.specs.B.{is_queue};
+
+// Bytes that are a queue.
+pub struct Queue<'a> {
+    pub bytes: &'a mut [u8],
+    ghost limits: { is_queue bytes.now ≡ true },
+}
+";
+        assert_eq!(of(source), alone);
+    }
 
     #[test]
     fn types_alone() {

@@ -7,7 +7,7 @@ use Rattle.answers.proofs.last_word.Goals as goal
 pub read_word-requires : goal.read_word-requires
 read_word-requires c = let p = c.requires in (
   read_one _ _ _ _ _ p.0 (words_left _ _ _ _ _ p.0 1 p.1) c.in-Incoming.is,
-  (omega (arith, p.1.answered, p.0.within), (p.0.row_formed, p.2)),
+  (omega (arith, p.1.answered, p.0.within), p.0.row_formed),
 )
 
 pub mark_behind-requires : goal.mark_behind-requires

@@ -2,4 +2,4 @@
 use Rattle.answers.proofs.mark_behind.Goals as goal
 
 pub returns : goal.returns
-returns c = rw (c.mark_after_words.ensures, c.u64_of_size-2.ensures, c.u64_of_size.ensures)
+returns c = c.mark_after_words.ensures

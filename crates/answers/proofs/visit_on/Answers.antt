@@ -32,14 +32,10 @@ returns-then-most-eq0 c = c.loop-here.invariant.0
 
 pub take_words-here-requires : goal.take_words-here-requires
 take_words-here-requires c =
-    let i = c.loop-here.invariant in
-    let ahead = c.words_ahead-ahead.ensures in
-    let least = c.least-most.ensures in (
+    let i = c.loop-here.invariant in (
       i.1.0,
-      one_word _ _ _ _ (omega (arith, ahead, least.0, c.if-most-eq0.false)) (omega (arith, c.if-answers-here.false)) _
-          c.is_word_at.ensures c.if-is_word_at.true,
-      (omega (arith, c.if-most-eq0.false), (omega (arith, ahead, least.0), omega (arith, least.1.0, c.if-answers-here.false))),
-      c.requires.2,
+      one_word _ _ _ _ (omega arith) (omega (arith, c.if-answers-here.false)) _ c.is_word_at.ensures c.if-is_word_at.true,
+      (omega arith, (omega arith, omega arith)),
     )
 
 pub loop-here-smaller-then-is_word_at : goal.loop-here-smaller-then-is_word_at

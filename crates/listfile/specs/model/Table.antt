@@ -1,23 +1,20 @@
 -- The pass over the fields as code makes it: a table of the places of fields. Nothing here is a rule of document 01.
-use Rattle.std.specs.Prelude.{ℕ, zero, suc, ◌+◌, ◌<◌, ◌≤◌, ◌≡◌, List, [], ◌∷◌, ◌++◌, get_or}
-use Rattle.std.proofs.Math.Option.{Option, none, some}
+use Rattle.std.specs.Prelude.{ℕ, zero, suc, ◌+◌, ◌<◌, ◌≤◌, ◌≡◌, List, [], ◌∷◌, ◌++◌, get_or, Result, Ok, Err, Some, None}
+use Rattle.std.specs.Prelude.{Option}
+use Rattle.std.proofs.Math.Option.{none, some}
+use Rattle.std.proofs.Math.Option as logic
 use Rattle.camac.specs.Words.{command_in}
 use Rattle.base.specs.Bytes.{short_at, long_at}
 use Rattle.base.specs.Checks.{◌gives◌, first_of}
-use Rattle.listfile.specs.Fields.{body_length, next_field, tag_at, first_at, second_at, is_unknown, wrong_length, body_of, after_head, field_of, Field, Fields, faulty, fields, Listed, refused, program}
+use Rattle.listfile.specs.Fields.{body_length, next_field, tag_of, tag_at, first_at, second_at, is_unknown, wrong_length, body_of, after_head, field_of, Field, Fields, faulty, fields, Listed, refused, program}
 use Rattle.listfile.specs.declared.field.Instruction.{Instruction}
 use Rattle.listfile.specs.declared.field.Instruction.TheVariants.{Camac, Jump, Literal, Halt}
-use Rattle.listfile.specs.declared.field.FieldRead.{FieldRead}
-use Rattle.listfile.specs.declared.field.FieldRead.TheVariants.{Read}
 use Rattle.listfile.specs.declared.field.Tag.{Tag}
 use Rattle.listfile.specs.declared.field.Tag.TheVariants.{CamacTag, JumpTag, LiteralTag, HaltTag, UnknownTag}
-use Rattle.listfile.specs.declared.check.Pass.{Pass}
-use Rattle.listfile.specs.declared.check.Pass.TheVariants as pass
-use Rattle.base.specs.declared.Refusal.{Refusal}
-use Rattle.listfile.specs.declared.check.Jumps.{Jumps}
-use Rattle.listfile.specs.declared.check.Jumps.TheVariants.{BadAt, Right}
-use Rattle.listfile.specs.declared.check.Checked.{Checked}
-use Rattle.listfile.specs.declared.check.Checked.TheVariants as checked
+use Rattle.base.specs.Refusals.{told}
+use Rattle.base.specs.declared.refusals.Refused.{Refused}
+use Rattle.listfile.specs.declared.check.Extent.{Extent}
+use Rattle.listfile.specs.declared.check.Sizes.{Sizes}
 
 -- the instruction of a field that has passed its checks, read again without them
 unfoldable pub instruction_by : Tag → List ℕ → ℕ → Instruction
@@ -28,7 +25,7 @@ instruction_by HaltTag list at = Halt
 instruction_by UnknownTag list at = Halt
 
 -- a field that lies in the list, by its tag: 3, 4, or what its body is read as
-abbrev pub read_by : Tag → List ℕ → ℕ → FieldRead
+abbrev pub read_by : Tag → List ℕ → ℕ → Result Instruction ℕ
 read_by tag list at = after_head (first_of (is_unknown tag gives 3 ∷ wrong_length tag (body_length list at) gives 4 ∷ [])) (body_of tag list at)
 
 unfoldable pub instruction_at : List ℕ → ℕ → Instruction
@@ -47,7 +44,7 @@ first_fields list (suc n) = first_fields list n ++ record { place = place_of lis
 -- the field at a place has passed its checks
 pub record FieldPassed (list : List ℕ) (at : ℕ) : Type 0 where
   pub count : ℕ
-  pub read : field_of list at count ≡ Read (instruction_at list at)
+  pub read : field_of list at count ≡ Ok (instruction_at list at)
 
 -- entry k of a table is the place of instruction k, for the first n, and its field has passed its checks
 pub record TableRight (list table : List ℕ) (n : ℕ) : Type 0 where
@@ -66,32 +63,28 @@ pub record Beyond (list : List ℕ) (n x : ℕ) : Type 0 where
   pub target : (k : ℕ) → k < n → TargetBelow x (instruction_at list (place_of list k))
 
 -- what an answer of the pass says of the fields, and of the table
-abbrev pub fields_by : List ℕ → Pass → Fields
-fields_by list (pass.Refused r) = faulty r
-fields_by list (pass.Through e) = fields (first_fields list e.count)
+abbrev pub fields_by : List ℕ → Result Extent Refused → Fields
+fields_by list (Ok e) = fields (first_fields list e.count)
+fields_by list (Err r) = faulty (told r)
 
-abbrev pub TableBy : List ℕ → List ℕ → Pass → Type 0
-TableBy list table (pass.Refused r) = Unit {0}
-TableBy list table (pass.Through e) = (e.count ≤ 4096) × (TableRight list table e.count × Beyond list e.count e.furthest)
-
-abbrev pub refusal_in : Pass → Refusal
-refusal_in (pass.Refused r) = r
-refusal_in (pass.Through e) = record { number = 0; place = 0 }
+abbrev pub TableBy : List ℕ → List ℕ → Result Extent Refused → Type 0
+TableBy list table (Ok e) = (e.count ≤ 4096) × (TableRight list table e.count × Beyond list e.count e.furthest)
+TableBy list table (Err r) = Unit {0}
 
 -- what an answer of the check of jumps says of the fields
-abbrev pub bad_jump_by : Jumps → Option ℕ
-bad_jump_by (BadAt place) = some place
-bad_jump_by Right = none
+abbrev pub bad_jump_by : Option ℕ → logic.Option ℕ
+bad_jump_by (Some place) = some place
+bad_jump_by None = none
 
 -- what an answer of the checks 1 to 10 says of the list, and of the table
-abbrev pub listed_by : List ℕ → Checked → Listed
-listed_by list (checked.Refused r) = refused r
-listed_by list (checked.Passed s) = program (record { limit = s.limit; fields = first_fields list s.count })
+abbrev pub listed_by : List ℕ → Result Sizes Refused → Listed
+listed_by list (Ok s) = program (record { limit = s.limit; fields = first_fields list s.count })
+listed_by list (Err r) = refused (told r)
 
-abbrev pub TableChecked : List ℕ → List ℕ → Checked → Type 0
-TableChecked list table (checked.Refused r) = Unit {0}
-TableChecked list table (checked.Passed s) = (s.count ≤ 4096) × ((s.limit < 65536) × TableRight list table s.count)
+abbrev pub TableChecked : List ℕ → List ℕ → Result Sizes Refused → Type 0
+TableChecked list table (Ok s) = (s.count ≤ 4096) × ((s.limit < 65536) × TableRight list table s.count)
+TableChecked list table (Err r) = Unit {0}
 
-abbrev pub refusal_of : Checked → Refusal
-refusal_of (checked.Refused r) = r
-refusal_of (checked.Passed s) = record { number = 0; place = 0 }
+-- what a byte says as a tag
+abbrev pub ReadsTag : ℕ → Tag → Type 0
+ReadsTag byte tag = tag ≡ tag_of byte

@@ -1,9 +1,8 @@
--- What a decoded reply stands for, by code's own type. Nothing here is a rule of document 01.
-use Rattle.std.proofs.Math.Option.{Option, none, some}
+-- A decoded reply in the code's Option is that in the definitions' one. Nothing here is a rule of document 01.
+use Rattle.std.specs.Prelude.{Option, Some, None}
+use Rattle.std.proofs.Math.Option as maybe
 use Rattle.reply.specs.declared.replies.Reply.{Reply}
-use Rattle.reply.specs.declared.replies.Formed.{Formed}
-use Rattle.reply.specs.declared.replies.Formed.TheVariants as formed
 
-abbrev pub formed_by : Formed → Option Reply
-formed_by (formed.Reply r) = some r
-formed_by formed.NotFormed = none
+abbrev pub formed_by : Option Reply → maybe.Option Reply
+formed_by (Some r) = maybe.some r
+formed_by None = maybe.none

@@ -1,6 +1,6 @@
 -- What code reads of a row of replies and stores of it: the answers before the first reply of another kind, the words among them, their bytes and
 -- their status bits. Nothing here is a rule of document 01.
-use Rattle.std.specs.Prelude.{ℕ, zero, suc, ◌+◌, ◌*◌, ◌/◌, ◌%◌, ◌^◌, ◌≤◌, ◌<◌, ◌≡◌, Bool, true, false, ◌||◌, not, List, [], ◌∷◌, eqb, length, get_or, take, drop, if◌then◌else◌}
+use Rattle.std.specs.Prelude.{ℕ, zero, suc, ◌+◌, ◌*◌, ◌/◌, ◌%◌, ◌≤◌, ◌<◌, ◌≡◌, Bool, true, false, ◌||◌, not, List, [], ◌∷◌, eqb, length, get_or, take, drop, Option, Some, None, if◌then◌else◌}
 use Rattle.std.specs.Int.Bits.{bit_and, bit_or, bit_xor}
 use Rattle.std.proofs.lemmas.List.Edits.{sets as written}
 use Rattle.base.specs.Bytes.{long_bytes, quad_at}
@@ -10,8 +10,6 @@ use Rattle.reply.specs.Replies.{is_formed, replies_in, all_formed}
 use Rattle.reply.specs.Status.{◌sets◌, bits_of}
 use Rattle.reply.specs.Effect.{longword_of}
 use Rattle.reply.specs.declared.replies.Reply.TheVariants.{Answered as AnsweredReply}
-use Rattle.row.specs.declared.reading.RowRead.{RowRead}
-use Rattle.row.specs.declared.reading.RowRead.TheVariants.{NotFormed, Answers}
 
 -- The row ----------------------------------------------------------------------------------------------------------------
 
@@ -31,9 +29,9 @@ pub record Answered (row : List ℕ) (k : ℕ) : Type 0 where
   pub kinds : AnswersTo row k
 
 -- what reading a row says
-abbrev pub ReadAs : List ℕ → RowRead → Type 0
-ReadAs row NotFormed = all_formed (replies_in row) ≡ false
-ReadAs row (Answers k) = Answered row k
+abbrev pub ReadAs : List ℕ → Option ℕ → Type 0
+ReadAs row None = all_formed (replies_in row) ≡ false
+ReadAs row (Some k) = Answered row k
 
 -- of the replies before number `to`, those from `from` on are formed
 abbrev pub FormedOver : List ℕ → ℕ → ℕ → Type 0
@@ -44,13 +42,14 @@ abbrev pub AnswersOver : List ℕ → ℕ → ℕ → ℕ → Type 0
 AnswersOver row from to k = (j : ℕ) → j < to → from ≤ j → j < k → get_or row (j * 8) 0 ≡ 0
 
 -- what reading a stretch of a row says, with `most` answers found before it
-abbrev pub StretchReadAs : List ℕ → ℕ → ℕ → ℕ → RowRead → Type 0
-StretchReadAs row from to most NotFormed = all_formed (replies_in row) ≡ false
-StretchReadAs row from to most (Answers k) = (k ≤ most) × (FormedOver row from to × AnswersOver row from to k)
+abbrev pub StretchReadAs : List ℕ → ℕ → ℕ → ℕ → Option ℕ → Type 0
+StretchReadAs row from to most None = all_formed (replies_in row) ≡ false
+StretchReadAs row from to most (Some k) = (k ≤ most) × (FormedOver row from to × AnswersOver row from to k)
 
--- bits that some bits gathered over a stretch lack, each reply of it lacks
-abbrev pub BitsOver : List ℕ → ℕ → ℕ → ℕ → Type 0
-BitsOver row from to bits = (mask : ℕ) → bit_and bits mask ≡ 0 → (j : ℕ) → j < to → from ≤ j → bit_and (quad_at row (j * 8)) mask ≡ 0
+-- the bits of k replies, some of them negated, gathered, from number `from` on
+unfoldable pub bits_over : ℕ → List ℕ → ℕ → ℕ → ℕ
+bits_over negated row from zero = 0
+bits_over negated row from (suc k) = bit_or (bits_over negated row from k) (bit_xor (quad_at row ((from + k) * 8)) negated)
 
 -- Words ------------------------------------------------------------------------------------------------------------------
 
@@ -80,10 +79,6 @@ flags_at row j = get_or row (j * 8 + 1) 0
 -- the first k answers from number `from` on are words by a mask: of the flags in it, just Q and X are set
 abbrev pub WordsAt : ℕ → List ℕ → ℕ → ℕ → Type 0
 WordsAt mask row from k = (j : ℕ) → j < k → bit_and (flags_at row (from + j)) mask ≡ mask % 4
-
--- a table of the top bits of longwords, by flags in which Q and X are negated
-pub record Tops (tops : List ℕ) : Type 0 where
-  pub top : (f : ℕ) → f < 64 → get_or tops (bit_xor f 3) 0 ≡ (if eqb (f / 2 % 2) 1 then 2 ^ 30 else 0) + (if eqb (f % 2) 1 then 2 ^ 31 else 0)
 
 -- whether an answer is a word, and the buffer with it where it is one
 abbrev pub WideTaken : ℕ → List ℕ → ℕ → ℕ → List ℕ → Bool → List ℕ → Type 0
@@ -119,14 +114,7 @@ unfoldable pub gathered_bits : List ℕ → ℕ → ℕ → ℕ
 gathered_bits row from zero = 0
 gathered_bits row from (suc k) = bit_or (gathered_bits row from k) (flag_bits (flags_at row (from + k)))
 
--- the same over flags in which Q and X are negated, so that each of six sets a status bit
-abbrev pub raised : ℕ → ℕ
-raised f = bit_xor (f % 64) 3
-
-unfoldable pub raised_over : List ℕ → ℕ → ℕ → ℕ
-raised_over row from zero = 0
-raised_over row from (suc k) = bit_or (raised_over row from k) (raised (flags_at row (from + k)))
-
+-- the same of flags in which Q and X are negated, so that each of six sets a status bit
 unfoldable pub raised_bits : ℕ → ℕ
 raised_bits g =
     bit_or (bit_and g 51 * 65536)

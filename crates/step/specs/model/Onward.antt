@@ -1,6 +1,7 @@
 -- A run on its way along the walk, as code makes it over the table of places. Nothing here is a rule of document 01.
 use Rattle.std.specs.Prelude.{ℕ, ◌^◌, ◌≤◌, ◌<◌, ◌≡◌, false, List, length, get_or, if◌then◌else◌}
 use Rattle.base.specs.Bytes.{Bytes}
+use Rattle.camac.specs.declared.words.Command.{Command}
 use Rattle.listfile.specs.model.Table.{instruction_at}
 use Rattle.listfile.specs.declared.check.Sizes.{Sizes}
 use Rattle.listfile.specs.declared.field.Instruction.{Instruction}
@@ -50,6 +51,14 @@ GoingBy list count (Ended r) incoming = Unit {0}
 -- a record that waits has its instruction in the table, and its outgoing mark fits
 abbrev pub Askable : List ℕ → Record → Type 0
 Askable table r = r.ended ≡ false → (r.spot.instruction < length table) × (r.marks.outgoing < 2 ^ 63)
+
+-- a record that waits does so at a CAMAC instruction
+pub record AtCommand (list table : List ℕ) (r : Record) : Type 0 where
+  pub command : Command
+  pub camac : instruction_at list (get_or table r.spot.instruction 0) ≡ Camac command
+
+abbrev pub Waiting : List ℕ → List ℕ → Record → Type 0
+Waiting list table r = r.ended ≡ false → AtCommand list table r
 
 abbrev pub operation_at : Instruction → Record → List ℕ → Operation
 operation_at (Camac c) r outgoing = operation_of c r outgoing

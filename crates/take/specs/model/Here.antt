@@ -46,11 +46,10 @@ abbrev pub moved_if : Bool → Command → Record → Record
 moved_if true c r = moved_record c r
 moved_if false c r = r
 
--- no cause: the same operation waits on, or it is through
+-- no cause: the same operation waits on, or it is through; r is the record after the reply
 unfoldable pub on_run : Command → Bool → Record → Record → Taken
 on_run c is_done before r =
-    let left : ℕ = left_after (qmode_of c.transfer) is_done before.left in
-    if eqb left 0 then Through (moved_if is_done c r) else Same (onward c is_done left before (moved_if is_done c r))
+    let left : ℕ = left_after (qmode_of c.transfer) is_done before.left in if eqb left 0 then Through r else Same (onward c is_done left before r)
 
 abbrev pub bytes_if : Bool → Command → ℕ → ℕ → List ℕ → List ℕ
 bytes_if true c word mark buffer = moved_bytes c word mark buffer
@@ -60,17 +59,21 @@ bytes_if false c word mark buffer = buffer
 unfoldable pub moves_at_end : ℕ → Command → Reply → Record → Bool
 moves_at_end limit c reply r = done_by (qmode_of c.transfer) reply && only_nine (causes_of limit c r reply)
 
+-- whether a reply moves its word
+unfoldable pub moves_word : ℕ → Command → Reply → Record → Bool
+moves_word limit c reply r =
+    if eqb (code_of limit c r reply) 0 then done_by (qmode_of c.transfer) reply else moves_at_end limit c reply r
+
 -- the record after a reply
 unfoldable pub here_run : ℕ → Command → Reply → Record → Taken
 here_run limit c reply r =
-    if eqb (code_of limit c r reply) 0 then on_run c (done_by (qmode_of c.transfer) reply) r (counted limit c reply r)
+    if eqb (code_of limit c r reply) 0
+    then on_run c (done_by (qmode_of c.transfer) reply) r (moved_if (done_by (qmode_of c.transfer) reply) c (counted limit c reply r))
     else Ended (ended_at r.spot (code_of limit c r reply) (moved_if (moves_at_end limit c reply r) c (counted limit c reply r)))
 
 -- the incoming buffer after it
 unfoldable pub here_buffer : ℕ → Command → Reply → Record → List ℕ → List ℕ
-here_buffer limit c reply r buffer =
-    bytes_if (if eqb (code_of limit c r reply) 0 then done_by (qmode_of c.transfer) reply else moves_at_end limit c reply r)
-    c (longword_of reply) r.marks.incoming buffer
+here_buffer limit c reply r buffer = bytes_if (moves_word limit c reply r) c (longword_of reply) r.marks.incoming buffer
 
 -- the walk behind the last word
 abbrev pub resumed : List Visit → Taken → List ℕ → List ℕ → State

@@ -1,6 +1,6 @@
 -- The run along the walk between answers, as code makes it: marks beside a spot, and a stay in place of a record. Nothing here is a rule of
 -- document 01.
-use Rattle.std.specs.Prelude.{ℕ, ◌≤◌, ◌≡◌, true, false, List, length, get_or, if◌then◌else◌}
+use Rattle.std.specs.Prelude.{ℕ, ◌≤◌, ◌≡◌, Some, None, List, length, get_or}
 use Rattle.camac.specs.Words.{command_in, words_of, position_of}
 use Rattle.camac.specs.model.Bits.{Passes}
 use Rattle.camac.specs.declared.words.Command.{Command}
@@ -12,11 +12,11 @@ use Rattle.walk.specs.Walk.{marks_over}
 use Rattle.walk.specs.model.Sums.{rest_from}
 use Rattle.walk.specs.declared.visits.Spot.{Spot}
 use Rattle.walk.proofs.Rest.{OnWalk}
-use Rattle.reply.specs.Effect.{ended_at, with_marks, run_on, state_of}
+use Rattle.reply.specs.Effect.{with_marks, run_on, state_of}
 use Rattle.reply.specs.declared.records.Record.{Record}
-use Rattle.answers.specs.model.Visit.{place_of, record_at}
+use Rattle.answers.specs.model.Visit.{place_of}
 use Rattle.whole_run.specs.declared.along.Reached.{Reached}
-use Rattle.whole_run.specs.declared.along.Stop.{Stop}
+use Rattle.whole_run.specs.declared.along.Opening.{Opening}
 use Rattle.answers.specs.declared.Stay.{Stay}
 
 -- a spot of the walk, with room for the literals and words of the walk from there
@@ -40,8 +40,8 @@ pub record AtCommand (i : Instruction) (first words : ℕ) : Type 0 where
 -- from a spot to the next CAMAC instruction or the halt
 pub record Reaches (list table : List ℕ) (count : ℕ) (from : Spot) (m : Marks) (b : List ℕ) (x : Reached) (b' : List ℕ) : Type 0 where
   pub ahead : Ahead list count x.spot x.marks b'
-  pub halt : x.halted ≡ true → instruction_at list (get_or table x.spot.instruction 0) ≡ Halt
-  pub command : x.halted ≡ false → AtCommand (instruction_at list (get_or table x.spot.instruction 0)) x.first x.words
+  pub halt : x.command ≡ None → instruction_at list (get_or table x.spot.instruction 0) ≡ Halt
+  pub command : (o : Opening) → x.command ≡ Some o → AtCommand (instruction_at list (get_or table x.spot.instruction 0)) o.first o.words
   pub goes : (r : Record) → r.marks ≡ m → (out : List ℕ)
       → run_on (rest_from list count from) (state_of r b out)
       ≡ run_on (rest_from list count x.spot) (state_of (with_marks x.marks r) b' out)
@@ -57,10 +57,6 @@ arrived c m s = record {
   note = s.note;
 }
 
--- behind the last word of an instruction, with other marks
-unfoldable pub between : Marks → Stay → Stay
-between m s = record { taken = s.taken; left = 0; tries = 0; position = 0; marks = m; note = s.note }
-
 -- the stay of a record before reply number `taken`
 unfoldable pub stay_of : Record → ℕ → Stay
 stay_of r taken = record {
@@ -71,8 +67,3 @@ stay_of r taken = record {
   marks = r.marks;
   note = r.note;
 }
-
--- the record at which the run stops; r is the record before reply number `from` of the row
-unfoldable pub stop_record : Record → List ℕ → ℕ → Stop → Record
-stop_record r row from x =
-    if x.halted then ended_at x.spot 0 (record_at r row from x.spot x.stay) else record_at r row from x.spot x.stay

@@ -11,4 +11,4 @@ returns-then-bytes-i c = (sym (short_past _ _ c.if-bytes-i.true), search rules)
 
 pub returns-then-bytes-i-lt2 : goal.returns-then-bytes-i-lt2
 unfolding byte_at
-returns-then-bytes-i-lt2 c = (c.usize_of.ensures.0 ∙ sym (short_one _ _ (omega arith)), omega arith)
+returns-then-bytes-i-lt2 c = (c.from.ensures ∙ sym (short_one _ _ (omega arith)), omega arith)

@@ -2,5 +2,5 @@
 use Rattle.listfile.proofs.PassLaws.{jumps_within}
 use Rattle.listfile.proofs.check.bad_jump.Goals as goal
 
-pub returns-then-furthest-count : goal.returns-then-furthest-count
-returns-then-furthest-count c = jumps_within _ _ _ _ c.requires.1.1 c.if-furthest-count.true
+pub returns-then-extent : goal.returns-then-extent
+returns-then-extent c = jumps_within _ _ _ _ c.requires.1.1 c.if-extent.true

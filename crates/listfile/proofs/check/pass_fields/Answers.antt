@@ -1,8 +1,9 @@
 -- The loop's invariant: all fields are those passed, in front of those from here on; the place is the next instruction's, at most eleven
 -- bytes on by instruction; the table is right so far, and no jump leads to `furthest` or past it. The measure is what is left of the list.
-use mathlib.Core.Path.{refl, sym, ◌∙◌}
+use mathlib.Core.Path.{refl, sym, ap, ◌∙◌}
 use native.Mathlib.Omega.{arith}
 use lib.ListN.{length-set}
+use Rattle.base.specs.Refusals.{numbered}
 use Rattle.listfile.specs.model.Table.{place_of}
 use Rattle.listfile.proofs.FieldLaws.{field_lies}
 use Rattle.listfile.proofs.PassLaws.{pass_start, pass_refused, pass_turn, pass_end, place_more, table_none, table_more, beyond_none, beyond_more}
@@ -17,23 +18,14 @@ loop-at-init c = (
   omega arith,
   omega arith,
   omega arith,
-  c.requires.1,
+  c.told-table,
   table_none _ _,
   beyond_none _ _,
 )
 
-pub read_at-field-requires : goal.read_at-field-requires
-read_at-field-requires c = omega arith
-
-pub shape_of-table-in_default : goal.shape_of-table-in_default
-shape_of-table-in_default c =
-    c.loop-at.invariant.6 ∙ sym c.requires.1
-
-pub returns-in_default : goal.returns-in_default
-returns-in_default c = (
-  c.loop-at.invariant.0 ∙ pass_refused _ _ _ _ _ _ _ _ (omega arith)
-      c.loop-at-test.true c.read_at-field.ensures
-      c.in_default.is c.number_of.ensures,
+pub returns-in-Err : goal.returns-in-Err
+returns-in-Err c = (
+  c.loop-at.invariant.0 ∙ pass_refused _ _ _ _ _ _ (omega arith) c.loop-at-test.true (sym c.read_at.ensures ∙ ap numbered c.in-Err.is),
   tt,
 )
 
@@ -42,7 +34,7 @@ next_place-next-requires c = omega arith
 
 pub overflow_cast-table : goal.overflow_cast-table
 overflow_cast-table c =
-    let lies = field_lies _ _ _ _ (sym c.read_at-field.ensures ∙ c.in-Read.is)
+    let lies = field_lies _ _ _ _ (sym c.read_at.ensures ∙ ap numbered c.in-Ok.is)
     in
     omega (arith, c.next_place-next.ensures)
 
@@ -51,7 +43,7 @@ offset_bounds-table-count c = omega arith
 
 pub bounds-table-count : goal.bounds-table-count
 bounds-table-count c =
-    let lies = field_lies _ _ _ _ (sym c.read_at-field.ensures ∙ c.in-Read.is)
+    let lies = field_lies _ _ _ _ (sym c.read_at.ensures ∙ ap numbered c.in-Ok.is)
     in
     omega arith
 
@@ -60,14 +52,14 @@ overflow_add-count c = omega arith
 
 pub loop-at-smaller : goal.loop-at-smaller
 loop-at-smaller c =
-    let lies = field_lies _ _ _ _ (sym c.read_at-field.ensures ∙ c.in-Read.is)
+    let lies = field_lies _ _ _ _ (sym c.read_at.ensures ∙ ap numbered c.in-Ok.is)
     in
     omega (arith, c.next_place-next.ensures)
 
 pub loop-at-preserved : goal.loop-at-preserved
 loop-at-preserved c =
     let i = c.loop-at.invariant in
-    let read = sym c.read_at-field.ensures ∙ c.in-Read.is in
+    let read = sym c.read_at.ensures ∙ ap numbered c.in-Ok.is in
     let next = c.next_place-next.ensures in
     let lies = field_lies _ _ _ _ read in (
       i.0 ∙ pass_turn _ _ _ _ _ (omega arith) c.loop-at-test.true read i.1 next,
@@ -80,9 +72,6 @@ loop-at-preserved c =
       table_more _ _ _ _ _ i.7 (omega arith) i.1 read,
       beyond_more _ _ _ _ _ _ i.8 i.1 read c.beyond-furthest.ensures.0 c.beyond-furthest.ensures.1,
     )
-
-pub shape_of-table : goal.shape_of-table
-shape_of-table c = c.loop-at.invariant.6 ∙ sym c.requires.1
 
 pub returns : goal.returns
 returns c = (

@@ -4,4 +4,4 @@ use Rattle.listfile.proofs.field.tag_at.Goals as goal
 
 pub returns : goal.returns
 unfolding byte_at
-returns c = simp (← c.byte_at.ensures, ← c.tag_of.ensures)
+returns c = simp (← c.byte_at.ensures, ← c.from.ensures)

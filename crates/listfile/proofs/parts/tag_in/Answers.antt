@@ -8,4 +8,4 @@ bounds-list-at c = tag_inside _ _ c.requires
 
 pub returns : goal.returns
 unfolding byte_at
-returns c = c.tag_of.ensures
+returns c = c.from.ensures

@@ -1,11 +1,8 @@
--- `any_bits` has each bit that one of the replies has. The loop's invariant: bits that it lacks, each reply passed lacks, for a bit of an OR is a bit of
--- one of its parts.
+-- `any_bits` gathers the bits of replies. The loop's invariant: it has those of the replies passed.
 use Prim.Native.Nat.{◌-◌}
-use Rattle.row.specs.model.Words.{BitsOver}
+use mathlib.Core.Path.{◌≡◌}
+use Rattle.row.specs.model.Words.{bits_over}
 use Rattle.row.proofs.reading.any_bits.Given as goal
 
 abbrev pub invariant-loop-k : goal.invariant-loop-k
-invariant-loop-k l = BitsOver l.row l.from l.k l.bits
-
-abbrev pub decreases-loop-k : goal.decreases-loop-k
-decreases-loop-k l = l.to - l.k
+invariant-loop-k g l = l.bits ≡ bits_over g.row.NEGATED l.row l.from (l.k - l.from)

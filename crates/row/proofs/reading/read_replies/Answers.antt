@@ -26,12 +26,6 @@ returns-then-not-is_formed_at c =
 pub answers_with-first-requires : goal.answers_with-first-requires
 answers_with-first-requires c = omega arith
 
-pub overflow_add-j : goal.overflow_add-j
-overflow_add-j c = omega arith
-
-pub loop-j-smaller : goal.loop-j-smaller
-loop-j-smaller c = omega arith
-
 pub loop-j-preserved : goal.loop-j-preserved
 loop-j-preserved c =
     let a = c.args in

@@ -1,10 +1,8 @@
 -- `read_row` reads a row stretch by stretch. The loop's invariant: the replies passed are formed, and of them those before `answers` are answers. A row
 -- that is no multiple of 8 bytes is not formed.
 use Prim.Native.Nat.{◌/◌}
-use mathlib.Core.Path.{subst}
 use native.Mathlib.Omega.{arith}
 use lib.ListN.{length}
-use Rattle.row.specs.model.Words.{StretchReadAs}
 use Rattle.row.proofs.ReadLaws.{all_formed_lem, cut_unformed, on_side}
 use Rattle.row.proofs.reading.read_row.Goals as goal
 
@@ -17,24 +15,17 @@ loop-k-init c = (omega arith, omega arith, λ j l f. absurd (omega arith), λ j 
 pub stretch_end-end-requires : goal.stretch_end-end-requires
 stretch_end-end-requires c = omega arith
 
-pub read_stretch-read-requires : goal.read_stretch-read-requires
-read_stretch-read-requires c = omega (arith, c.stretch_end-end.ensures.1)
-
-pub returns-in_default : goal.returns-in_default
-returns-in_default c =
-    let a = c.args in
-    subst (StretchReadAs a.row.now c.loop-k.k _ c.loop-k.answers) c.in_default.is c.read_stretch-read.ensures
+pub read_stretch-requires : goal.read_stretch-requires
+read_stretch-requires c = (omega (arith, c.stretch_end-end.ensures.0), omega (arith, c.stretch_end-end.ensures.1))
 
 pub loop-k-smaller : goal.loop-k-smaller
 loop-k-smaller c = omega (arith, c.stretch_end-end.ensures.0, c.stretch_end-end.ensures.1)
 
 pub loop-k-preserved : goal.loop-k-preserved
 loop-k-preserved c =
-    let a = c.args in
     let k = c.loop-k.k in
     let i = c.loop-k.invariant in
-    let e = subst (StretchReadAs a.row.now k c.stretch_end-end.result c.loop-k.answers) c.in-Answers.is
-    c.read_stretch-read.ensures in (
+    let e = c.in_ok-answers.ensures in (
       c.stretch_end-end.ensures.1,
       omega (arith, e.0),
       λ j l f. on_side k j (λ below. i.2 j below f) (λ above. e.1.0 j l above),

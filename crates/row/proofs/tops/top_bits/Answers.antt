@@ -23,6 +23,6 @@ all_right : all_below 64 right ≡ true
 unfolding all_below fours
 all_right = refl
 
-pub returns : goal.returns
+pub invariant_of-result : goal.invariant_of-result
 unfolding fours
-returns c = record { top = λ f h. eqb-true _ _ (tried 64 right all_right f h) }
+invariant_of-result c = record { right = record { top = λ f h. eqb-true _ _ (tried 64 right all_right f h) } }

@@ -6,7 +6,7 @@ use Rattle.row.proofs.WordLaws.{words_none, words_more, first_passed}
 use Rattle.row.proofs.words.pass_words.Goals as goal
 
 pub loop-k-init : goal.loop-k-init
-loop-k-init c = let a = c.args in (omega arith, words_none a.mask a.row.now a.from)
+loop-k-init c = let a = c.args in words_none a.mask a.row.now a.from
 
 pub overflow_add-from : goal.overflow_add-from
 overflow_add-from c = omega arith
@@ -18,25 +18,17 @@ pub returns-then-not-is_word_at : goal.returns-then-not-is_word_at
 returns-then-not-is_word_at c =
     let a = c.args in
     let i = c.loop-k.invariant in (
-      i.0,
+      omega arith,
       (
-        i.1,
+        i,
         λ some first. first_passed a.mask a.row.now a.from _ (sym c.is_word_at.ensures ∙ c.if-not-is_word_at.true) first,
       ),
     )
 
-pub overflow_add-k : goal.overflow_add-k
-overflow_add-k c = omega arith
-
-pub loop-k-smaller : goal.loop-k-smaller
-loop-k-smaller c = omega arith
-
 pub loop-k-preserved : goal.loop-k-preserved
 loop-k-preserved c =
-    let a = c.args in (
-      omega arith,
-      words_more a.mask a.row.now a.from _ c.loop-k.invariant.1 (sym c.is_word_at.ensures ∙ c.if-not-is_word_at.false),
-    )
+    let a = c.args in
+    words_more a.mask a.row.now a.from _ c.loop-k.invariant (sym c.is_word_at.ensures ∙ c.if-not-is_word_at.false)
 
 pub returns : goal.returns
-returns c = let i = c.loop-k.invariant in (i.0, (i.1, λ some first. omega arith))
+returns c = (omega arith, (λ j l. c.loop-k.invariant j (omega arith), λ some first. omega arith))

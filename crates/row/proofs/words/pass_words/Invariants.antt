@@ -1,11 +1,7 @@
 -- `pass_words` counts words. The loop's invariant: the first k answers are words. Where it stops early, the next is none, so that a first word is
 -- counted.
-use Prim.Native.Nat.{◌-◌, ◌≤◌}
 use Rattle.row.specs.model.Words.{WordsAt}
 use Rattle.row.proofs.words.pass_words.Given as goal
 
 abbrev pub invariant-loop-k : goal.invariant-loop-k
-invariant-loop-k l = (l.k ≤ l.most) × WordsAt l.mask l.row l.from l.k
-
-abbrev pub decreases-loop-k : goal.decreases-loop-k
-decreases-loop-k l = l.most - l.k
+invariant-loop-k l = WordsAt l.mask l.row l.from l.k

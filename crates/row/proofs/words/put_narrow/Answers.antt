@@ -10,7 +10,7 @@ bounds-incoming-to-2 c = simp length-set (omega arith)
 
 pub returns : goal.returns
 returns c =
-    let byte = c.shared_slice_known-2-1.given in
+    let byte = c.type_inv.row in
     let at = c.args.at in
     let b = narrow_bytes c.args.row.now (λ i. omega (arith, byte i)) at in
     rw (b.0, b.1, add-one c.args.to)

@@ -1,5 +1,4 @@
 -- `read_narrow` counts words and stores them. The loop's invariant: the first k answers are words, and they lie in the buffer.
-use Prim.Native.Nat.{◌-◌, ◌≤◌}
 use mathlib.Core.Path.{◌≡◌}
 use mathlib.Core.Bool.{false}
 use lib.ListN.{length}
@@ -7,8 +6,5 @@ use Rattle.row.specs.model.Words.{WordsAt, words_stored}
 use Rattle.row.proofs.words.read_narrow.Given as goal
 
 abbrev pub invariant-loop-k : goal.invariant-loop-k
-invariant-loop-k l = (l.k ≤ l.most) × WordsAt l.mask l.row l.from l.k
+invariant-loop-k l = WordsAt l.mask l.row l.from l.k
     × (l.incoming ≡ words_stored false l.row l.from l.mark l.k l.initial.incoming) × (length l.incoming ≡ length l.initial.incoming)
-
-abbrev pub decreases-loop-k : goal.decreases-loop-k
-decreases-loop-k l = l.most - l.k

@@ -26,7 +26,7 @@ overflow_add-from c = omega arith
 pub take_wide-requires : goal.take_wide-requires
 take_wide-requires c =
     let p = c.requires in
-    (omega (arith, c.loop-k.invariant.2), (omega arith, (p.1.1.1.0, p.1.1.1.1)))
+    (omega (arith, c.loop-k.invariant.2), (omega arith, p.1.1.1))
 
 pub shape_of-incoming-then-not-take_wide : goal.shape_of-incoming-then-not-take_wide
 shape_of-incoming-then-not-take_wide c = c.take_wide.auto.incoming ∙ c.loop-k.invariant.2
@@ -55,7 +55,7 @@ overflow_add-from-in-loop-k c = omega arith
 pub take_wide-requires-in-loop-k : goal.take_wide-requires-in-loop-k
 take_wide-requires-in-loop-k c =
     let p = c.requires in
-    (omega (arith, c.loop-k.invariant.2, c.take_wide.auto.incoming), (omega arith, (p.1.1.1.0, p.1.1.1.1)))
+    (omega (arith, c.loop-k.invariant.2, c.take_wide.auto.incoming), (omega arith, p.1.1.1))
 
 pub shape_of-incoming-then-not-take_wide-2 : goal.shape_of-incoming-then-not-take_wide-2
 shape_of-incoming-then-not-take_wide-2 c =
@@ -102,7 +102,7 @@ overflow_add-from-2 c = omega arith
 pub take_wide-requires-2 : goal.take_wide-requires-2
 take_wide-requires-2 c =
     let p = c.requires in
-    (omega (arith, c.loop-k.invariant.2), (omega arith, (p.1.1.1.0, p.1.1.1.1)))
+    (omega (arith, c.loop-k.invariant.2), (omega arith, p.1.1.1))
 
 pub overflow_add-result : goal.overflow_add-result
 overflow_add-result c = omega arith

@@ -29,7 +29,7 @@ read_wide-k-requires c =
           c.pad-to.ensures.0,
           c.pad-to.auto.buffer,
         ),
-        (omega (arith, aligned_multiple c.args.mark even, c.pad-to.ensures.0), (c.requires.1.1.1.1.0, c.requires.1.1.1.1.1.1)),
+        (omega (arith, aligned_multiple c.args.mark even, c.pad-to.ensures.0), c.requires.1.1.1.1.0),
       ),
     )
 
@@ -49,7 +49,7 @@ returns-then-wide c =
     let e = c.read_wide-k.ensures in
     let a = c.args in
     let even = c.requires.1.1.1.0 in
-    let some = e.1.1.0 c.requires.0 (first_word a.mask a.row.now a.from c.requires.1.1.1.1.1.0) in (
+    let some = e.1.1.0 c.requires.0 (first_word a.mask a.row.now a.from c.requires.1.1.1.1.1) in (
       some,
       (
         e.0,
@@ -83,5 +83,5 @@ pub returns : goal.returns
 returns c =
     let e = c.read_narrow-k.ensures in
     let a = c.args in
-    let some = e.1.1.0 c.requires.0 (first_word a.mask a.row.now a.from c.requires.1.1.1.1.1.0) in
+    let some = e.1.1.0 c.requires.0 (first_word a.mask a.row.now a.from c.requires.1.1.1.1.1) in
     (some, (e.0, (e.1.0, (e.1.1.1 ∙ rw c.if-wide.false, rw c.if-wide.false (sym (narrow_mark _ a.mark))))))

@@ -1,12 +1,8 @@
 -- `binary_of` is the number of the digits, taken in pairs, under the two top bits.
 use borrow.Author.Rules.{rules}
-use native.Mathlib.Omega.{arith}
 use Rattle.scalers.specs.Scalers.{converted_to}
-use Rattle.scalers.proofs.Sums.{tens_fit, binary_sum_lem}
+use Rattle.scalers.proofs.Sums.{binary_sum_lem}
 use Rattle.scalers.proofs.longwords.binary_of.Goals as goal
-
-pub overflow_sub-pairs : goal.overflow_sub-pairs
-overflow_sub-pairs c = omega (arith, tens_fit c.args.w)
 
 pub returns : goal.returns
 unfolding converted_to

@@ -8,43 +8,43 @@ use Rattle.walk.specs.declared.visits.Spot.{Spot}
 use Rattle.step.proofs.Onward.{within, arrived_at, room_here, onward, arrived}
 use Rattle.step.proofs.along.run_on.Goals as goal
 
-pub loop-j-init : goal.loop-j-init
-loop-j-init c = (λ out. refl, (c.requires.1.1.1, refl))
+pub loop-next-init : goal.loop-next-init
+loop-next-init c = (λ out. refl, (c.requires.1.1.1, refl))
 
-pub offset_bounds-table-k : goal.offset_bounds-table-k
-offset_bounds-table-k c = omega (arith, within _ _ _ c.loop-j.invariant.1.0.on)
+pub offset_bounds-table-at : goal.offset_bounds-table-at
+offset_bounds-table-at c = omega (arith, within _ _ _ c.loop-next.invariant.1.0.on)
 
-pub bounds-table-k : goal.bounds-table-k
-bounds-table-k c =
-    omega (arith, within _ _ _ c.loop-j.invariant.1.0.on, c.requires.0)
+pub bounds-table-at : goal.bounds-table-at
+bounds-table-at c =
+    omega (arith, within _ _ _ c.loop-next.invariant.1.0.on, c.requires.0)
 
-pub advance_by-next-requires : goal.advance_by-next-requires
-advance_by-next-requires c =
-    let g = c.loop-j.invariant.1.0 in (
+pub advance_by-requires : goal.advance_by-requires
+advance_by-requires c =
+    let g = c.loop-next.invariant.1.0 in (
       omega (arith, within _ _ _ g.on, c.requires.1.0),
-      room_here _ _ _ _ _ _ c.requires.1.1.0 refl c.instruction_at-i.ensures _ _ g,
+      room_here _ _ _ _ _ _ c.requires.1.1.0 refl c.instruction_at-instruction.ensures _ _ g,
     )
 
-pub loop-j-smaller : goal.loop-j-smaller
-loop-j-smaller c =
-    (onward _ _ _ _ _ _ c.requires.1.1.0 refl c.instruction_at-i.ensures _ _ c.loop-j.invariant.1.0 _ _ _ (sym
-    c.advance_by-next.ensures.0 ∙ c.in-On.is) c.advance_by-next.ensures.1).1
+pub loop-next-smaller : goal.loop-next-smaller
+loop-next-smaller c =
+    (onward _ _ _ _ _ _ c.requires.1.1.0 refl c.instruction_at-instruction.ensures _ _ c.loop-next.invariant.1.0 _ _ _ (sym
+    c.advance_by.ensures.0 ∙ c.in-On.is) c.advance_by.ensures.1).1
 
-pub loop-j-preserved : goal.loop-j-preserved
-loop-j-preserved c =
-    let w = onward _ _ _ _ _ _ c.requires.1.1.0 refl c.instruction_at-i.ensures _ _ c.loop-j.invariant.1.0 _
-    _ _ (sym c.advance_by-next.ensures.0 ∙ c.in-On.is) c.advance_by-next.ensures.1 in
-    (λ out. sym (w.2 out) ∙ c.loop-j.invariant.0 out, (w.0, c.advance_by-next.auto.incoming ∙ c.loop-j.invariant.1.1))
+pub loop-next-preserved : goal.loop-next-preserved
+loop-next-preserved c =
+    let w = onward _ _ _ _ _ _ c.requires.1.1.0 refl c.instruction_at-instruction.ensures _ _ c.loop-next.invariant.1.0 _
+    _ _ (sym c.advance_by.ensures.0 ∙ c.in-On.is) c.advance_by.ensures.1 in
+    (λ out. sym (w.2 out) ∙ c.loop-next.invariant.0 out, (w.0, c.advance_by.auto.incoming ∙ c.loop-next.invariant.1.1))
 
 pub shape_of-incoming-in-At : goal.shape_of-incoming-in-At
 shape_of-incoming-in-At c =
-    c.advance_by-next.auto.incoming ∙ c.loop-j.invariant.1.1
+    c.advance_by.auto.incoming ∙ c.loop-next.invariant.1.1
 
 pub returns-in-At : goal.returns-in-At
 returns-in-At c =
-    let at = sym c.advance_by-next.ensures.0 ∙ c.in-At.is in (
-      λ out. arrived _ _ _ _ _ _ c.requires.1.1.0 refl c.instruction_at-i.ensures _ _ c.loop-j.invariant.1.0 _ _
-          at c.advance_by-next.ensures.1 out ∙ c.loop-j.invariant.0 out,
-      c.instruction_at-i.ensures
+    let at = sym c.advance_by.ensures.0 ∙ c.in-At.is in (
+      λ out. arrived _ _ _ _ _ _ c.requires.1.1.0 refl c.instruction_at-instruction.ensures _ _ c.loop-next.invariant.1.0 _ _
+          at c.advance_by.ensures.1 out ∙ c.loop-next.invariant.0 out,
+      c.instruction_at-instruction.ensures
           ∙ ap (λ (k : Spot). instruction_at c.args.list.now (get_or c.args.table.now k.instruction 0)) (sym (arrived_at _ _ _ _ at)),
     )

@@ -9,10 +9,10 @@ use Rattle.reply.specs.Effect.{run_on, state_of}
 use Rattle.step.specs.model.Onward.{Going}
 use Rattle.step.proofs.along.run_on.Given as goal
 
-abbrev pub invariant-loop-j : goal.invariant-loop-j
-invariant-loop-j l =
+abbrev pub invariant-loop-next : goal.invariant-loop-next
+invariant-loop-next l =
     ((out : List ℕ) → run_on (rest_from l.list l.count l.at) (state_of l.here l.incoming out) ≡ run_on (rest_from l.list l.count l.initial.at) (state_of l.initial.here l.initial.incoming
     out)) × (Going l.list l.count l.at l.here l.incoming × (length l.incoming ≡ length l.initial.incoming))
 
-abbrev pub decreases-loop-j : goal.decreases-loop-j
-decreases-loop-j l = length (rest_from l.list l.count l.at)
+abbrev pub decreases-loop-next : goal.decreases-loop-next
+decreases-loop-next l = length (rest_from l.list l.count l.at)

@@ -7,53 +7,53 @@ use Rattle.step.proofs.Onward.{within}
 use Rattle.step.proofs.Search.{finding_start, finding_below, find_missing, find_here, find_on}
 use Rattle.step.proofs.place.find.Goals as goal
 
-pub loop-next-init : goal.loop-next-init
-loop-next-init c = rw c.first_spot-at.ensures (finding_start _ _ _ c.requires.1.walk)
+pub loop-turn-init : goal.loop-turn-init
+loop-turn-init c = rw c.first_spot-at.ensures (finding_start _ _ _ c.requires.1.walk)
 
-pub offset_bounds-table-k : goal.offset_bounds-table-k
-offset_bounds-table-k c = omega (arith, within _ _ _ c.loop-next.invariant.on, c.requires.1.few)
+pub offset_bounds-table-at : goal.offset_bounds-table-at
+offset_bounds-table-at c = omega (arith, within _ _ _ c.loop-turn.invariant.on, c.requires.1.few)
 
-pub bounds-table-k : goal.bounds-table-k
-bounds-table-k c =
+pub bounds-table-at : goal.bounds-table-at
+bounds-table-at c =
     omega (
       arith,
-      within _ _ _ c.loop-next.invariant.on,
+      within _ _ _ c.loop-turn.invariant.on,
       c.requires.1.few,
       c.requires.0,
     )
 
-pub turn_of-turn-requires : goal.turn_of-turn-requires
-turn_of-turn-requires c = (
+pub turn_of-requires : goal.turn_of-requires
+turn_of-requires c = (
   c.requires.1.small,
   (
     words_few _ _ _ c.instruction_at-i.ensures,
     (
       omega (
         arith,
-        within _ _ _ c.loop-next.invariant.on,
+        within _ _ _ c.loop-turn.invariant.on,
         c.requires.1.few,
       ),
-      finding_below _ _ _ _ _ _ _ c.loop-next.invariant c.requires.1.below,
+      finding_below _ _ _ _ _ _ _ c.loop-turn.invariant c.requires.1.below,
     ),
   ),
 )
 
-pub returns-in_default : goal.returns-in_default
-returns-in_default c =
-    find_missing _ _ _ _ _ _ c.requires.1.right refl c.instruction_at-i.ensures _ _ _ _
-    c.loop-next.invariant (sym c.turn_of-turn.ensures ∙ c.in_default.is)
+pub returns-in_err-turn : goal.returns-in_err-turn
+returns-in_err-turn c =
+    c.from_residual.ensures ∙ find_missing _ _ _ _ _ _ c.requires.1.right refl c.instruction_at-i.ensures _ _ _ _
+    c.loop-turn.invariant (sym c.turn_of.ensures ∙ c.in_err-turn.was)
 
-pub returns-then-is_same_spot : goal.returns-then-is_same_spot
-returns-then-is_same_spot c =
+pub returns-then-eq : goal.returns-then-eq
+returns-then-eq c =
     c.found_at.ensures ∙ find_here _ _ _ _ _ _ c.requires.1.right refl c.instruction_at-i.ensures _ _ _ _
-    c.loop-next.invariant _ _ (sym c.turn_of-turn.ensures ∙ c.in-To.is) (sym c.is_same_spot.ensures ∙ c.if-is_same_spot.true)
+    c.loop-turn.invariant _ (sym c.turn_of.ensures ∙ c.in_ok-turn.was) (sym c.eq.ensures ∙ c.if-eq.true)
 
-pub loop-next-smaller : goal.loop-next-smaller
-loop-next-smaller c =
-    (find_on _ _ _ _ _ _ c.requires.1.right refl c.instruction_at-i.ensures _ _ _ _ c.loop-next.invariant _ _ (sym
-    c.turn_of-turn.ensures ∙ c.in-To.is) (sym c.is_same_spot.ensures ∙ c.if-is_same_spot.false)).1
+pub loop-turn-smaller : goal.loop-turn-smaller
+loop-turn-smaller c =
+    (find_on _ _ _ _ _ _ c.requires.1.right refl c.instruction_at-i.ensures _ _ _ _ c.loop-turn.invariant _ (sym
+    c.turn_of.ensures ∙ c.in_ok-turn.was) (sym c.eq.ensures ∙ c.if-eq.false)).1
 
-pub loop-next-preserved : goal.loop-next-preserved
-loop-next-preserved c =
-    (find_on _ _ _ _ _ _ c.requires.1.right refl c.instruction_at-i.ensures _ _ _ _ c.loop-next.invariant _ _ (sym
-    c.turn_of-turn.ensures ∙ c.in-To.is) (sym c.is_same_spot.ensures ∙ c.if-is_same_spot.false)).0
+pub loop-turn-preserved : goal.loop-turn-preserved
+loop-turn-preserved c =
+    (find_on _ _ _ _ _ _ c.requires.1.right refl c.instruction_at-i.ensures _ _ _ _ c.loop-turn.invariant _ (sym
+    c.turn_of.ensures ∙ c.in_ok-turn.was) (sym c.eq.ensures ∙ c.if-eq.false)).0

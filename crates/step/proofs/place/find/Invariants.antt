@@ -6,8 +6,8 @@ use Rattle.walk.specs.model.Sums.{rest_from, plan_by}
 use Rattle.step.proofs.Search.{Finding}
 use Rattle.step.proofs.place.find.Given as goal
 
-abbrev pub invariant-loop-next : goal.invariant-loop-next
-invariant-loop-next l = Finding l.list l.sizes.count l.sizes.limit l.sought (counts_of (plan_by l.list l.sizes)) l.at l.sums
+abbrev pub invariant-loop-turn : goal.invariant-loop-turn
+invariant-loop-turn l = Finding l.list l.sizes.count l.sizes.limit l.sought (counts_of (plan_by l.list l.sizes)) l.at l.sums
 
-abbrev pub decreases-loop-next : goal.decreases-loop-next
-decreases-loop-next l = length (rest_from l.list l.sizes.count l.at)
+abbrev pub decreases-loop-turn : goal.decreases-loop-turn
+decreases-loop-turn l = length (rest_from l.list l.sizes.count l.at)

@@ -1,21 +1,17 @@
 -- `record_fits` is `fits`, by what is found at the record's spot.
-use Rattle.step.proofs.Search.{planned_counts, missing_unfit, found_bounded, test_unfit, test_alive}
+use Rattle.step.proofs.Search.{planned_counts, missing_unfit, found_bounded, answered}
 use Rattle.step.proofs.place.record_fits.Goals as goal
 
-pub find-found-requires : goal.find-found-requires
-find-found-requires c = (c.requires.entries, planned_counts _ _ _ _ c.requires)
+pub find-requires : goal.find-requires
+find-requires c = (c.requires.entries, planned_counts _ _ _ _ c.requires)
 
-pub returns-in_default : goal.returns-in_default
-returns-in_default c = missing_unfit _ _ _ _ c.requires _ _ c.find-found.ensures c.in_default.is
+pub returns-in_err-met : goal.returns-in_err-met
+returns-in_err-met c = rw c.from_residual.ensures (missing_unfit _ _ _ _ c.requires _ _ c.find.ensures c.in_err-met.was)
 
 pub fits_here-requires : goal.fits_here-requires
 fits_here-requires c =
-    found_bounded _ _ _ _ c.requires c.args.r _ c.find-found.ensures _ _ _ c.in-Here.is
-
-pub returns-then-fits_here : goal.returns-then-fits_here
-returns-then-fits_here c =
-    test_alive _ _ _ _ c.requires _ _ c.find-found.ensures _ _ _ c.in-Here.is _ c.fits_here.ensures c.if-fits_here.true
+    found_bounded _ _ _ _ c.requires c.args.r _ c.find.ensures _ c.in_ok-met.was
 
 pub returns : goal.returns
 returns c =
-    test_unfit _ _ _ _ c.requires _ _ c.find-found.ensures _ _ _ c.in-Here.is _ c.fits_here.ensures c.if-fits_here.false
+    rw c.then_some.ensures (answered _ _ _ _ c.requires _ _ c.find.ensures _ c.in_ok-met.was _ c.fits_here.ensures)

@@ -1,4 +1,3 @@
-use Prim.Native.Nat.{◌-◌, ◌≤◌}
 use mathlib.Core.Path.{◌≡◌}
 use Rattle.walk.specs.model.Return.{iterate}
 use Rattle.listfile.specs.model.Table.{first_fields}
@@ -6,7 +5,4 @@ use Rattle.walk.specs.model.Back.{step_spot}
 use Rattle.walk.proofs.back.after.Given as goal
 
 abbrev pub invariant-loop-i : goal.invariant-loop-i
-invariant-loop-i l = (l.i ≤ l.n) × (l.here ≡ iterate (step_spot (first_fields l.list l.count)) l.i l.initial.here)
-
-abbrev pub decreases-loop-i : goal.decreases-loop-i
-decreases-loop-i l = l.n - l.i
+invariant-loop-i l = l.here ≡ iterate (step_spot (first_fields l.list l.count)) l.i l.initial.here

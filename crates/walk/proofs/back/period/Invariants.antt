@@ -1,4 +1,4 @@
-use Prim.Native.Nat.{ℕ, ◌-◌, ◌≤◌, ◌<◌}
+use Prim.Native.Nat.{ℕ, ◌≤◌, ◌<◌}
 use mathlib.Core.Path.{◌≡◌}
 use Rattle.walk.specs.model.Return.{iterate}
 use Rattle.listfile.specs.model.Table.{first_fields}
@@ -7,8 +7,5 @@ use Rattle.walk.proofs.back.period.Given as goal
 
 abbrev pub invariant-loop-p : goal.invariant-loop-p
 invariant-loop-p l =
-    (l.p ≤ l.most) × (l.here ≡ iterate (step_spot (first_fields l.list l.count)) l.p l.spot)
+    (l.here ≡ iterate (step_spot (first_fields l.list l.count)) l.p l.spot)
     × ((q : ℕ) → 0 < q → q ≤ l.p → iterate (step_spot (first_fields l.list l.count)) q l.spot ≡ l.spot → ⊥)
-
-abbrev pub decreases-loop-p : goal.decreases-loop-p
-decreases-loop-p l = l.most - l.p

@@ -1,6 +1,6 @@
 -- The loop's invariant: the walk from its start comes to what the walk from here with the sums so far comes to, and each visit added at most
--- 2^48 to each sum. The measure is the visits left.
-use Prim.Native.Nat.{◌-◌, ◌*◌, ◌^◌, ◌≤◌}
+-- 2^48 to each sum.
+use Prim.Native.Nat.{◌-◌, ◌*◌, ◌^◌}
 use mathlib.Core.Path.{◌≡◌}
 use Rattle.listfile.specs.model.Table.{first_fields}
 use Rattle.walk.specs.Walk.{first_spot, walk_from}
@@ -10,9 +10,6 @@ use Rattle.walk.proofs.visits.walk.Given as goal
 
 abbrev pub invariant-loop-visits : goal.invariant-loop-visits
 invariant-loop-visits l =
-    (ahead l.limit (walk_from l.count (first_fields l.list l.count) first_spot) no_counts
-    ≡ ahead l.limit (walk_from (l.count - l.visits) (first_fields l.list l.count) l.here) l.sums)
-    × (l.visits ≤ l.count) × SumsTo (2 ^ 48 * l.visits) l.sums
-
-abbrev pub decreases-loop-visits : goal.decreases-loop-visits
-decreases-loop-visits l = l.count - l.visits
+    (ahead l.limit (walk_from l.sizes.count (first_fields l.list l.sizes.count) first_spot) no_counts
+    ≡ ahead l.limit (walk_from (l.sizes.count - l.visits) (first_fields l.list l.sizes.count) l.here) l.sums)
+    × SumsTo (2 ^ 48 * l.visits) l.sums
