@@ -47,7 +47,9 @@ impl From<Fault> for Refused {
 
     ghost from_gives = { RefusedAtZero };
 
-    fn from(fault: Fault) -> Refused {
+    fn from(fault: Fault) -> Refused
+        ensures { RefusedAtZero fault result }
+    {
         Refused { fault, place: 0 }
     }
 }

@@ -99,6 +99,19 @@ direction_second first second = command_direction first second (mode_in first) r
 mode_bits : (first : ℕ) → mode_in first ≡ first / 32 % 2 + first / 64 % 2 * 2
 mode_bits first = omega arith
 
+-- transfer mode and Q-mode as one number
+pub both_bits : (first mode q : ℕ) → (mode < 4) × (q < 4) → eqb (first / 8 % 16) (mode * 4 + q) ≡ eqb (mode_in first) mode && eqb (qmode_bits first) q
+both_bits first mode q h =
+    on (eqb (mode_in first) mode)
+    (λ m. on (eqb (qmode_bits first) q)
+    (λ e. let a = eqb-true (mode_in first) mode m in let b = eqb-true (qmode_bits first) q e in
+    rw (m, e, eq-eqb (first / 8 % 16) (mode * 4 + q) (omega (arith, both))))
+    (λ e. rw (m, e, ne_eqb (first / 8 % 16) (mode * 4 + q) (λ x. eqb-false (qmode_bits first) q e (omega (arith, both))))))
+    (λ m. rw (m, ne_eqb (first / 8 % 16) (mode * 4 + q) (λ x. eqb-false (mode_in first) mode m (omega (arith, both)))))
+  where
+    both : first / 8 % 16 ≡ first / 32 % 4 * 4 + first / 8 % 4
+    both = omega arith
+
 -- By the function ----------------------------------------------------------------------------------------------------------
 
 -- of an enhanced block whose function is no control
@@ -219,6 +232,17 @@ module _ (first : ℕ) (p : Passes first) where
       (λ s. rw s)
 
 -- Numbers of words -------------------------------------------------------------------------------------------------------------
+
+-- a mode that is neither single nor inline
+pub block_mode : (first : ℕ) → ¬ (mode_in first ≡ 0) → ¬ (mode_in first ≡ 3) → is_block_in first ≡ true
+block_mode first a b = go (mode_in first) refl (omega arith)
+  where
+    go : (mode : ℕ) → mode_in first ≡ mode → mode < 4 → is_block_in first ≡ true
+    go zero m h = absurd (a m)
+    go (suc zero) m h = rw m
+    go (suc (suc zero)) m h = rw m
+    go (suc (suc (suc zero))) m h = absurd (b m)
+    go (suc (suc (suc (suc k)))) m h = absurd (omega arith)
 
 pub block_long : (first : ℕ) → is_block_in first ≡ true → ¬ (mode_in first ≡ 0)
 block_long first b m = let n : false ≡ true = rw m at b in let z : ◌≡◌ {A = ℕ} 0 1 = cc in omega arith

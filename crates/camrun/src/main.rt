@@ -2,6 +2,10 @@
 // read up to 65,536 bytes; a missing one is empty. The incoming buffer is 65,536 zero bytes.
 #![tactic(auto)]
 
+ghost use Rattle.calls.specs.Calls.{step_of};
+ghost use Rattle.reply.specs.Effect.{state_of};
+ghost use Rattle.step.specs.InPlace.{Leaves};
+
 use base::{Fault, Refused};
 use calls::{Operation, Yield};
 use files::{Rooms, RunFiles};
@@ -53,12 +57,26 @@ fn run_replies(out: &mut impl Write, found: RunFiles) -> io::Result<()> {
             break;
         };
         print_operation(out, run.operations, operation)?;
-        match step::step_in_place(list, &mut run, &mut incoming, outgoing, reply) {
+        match take_reply(list, &mut run, &mut incoming, outgoing, reply) {
             Ok(next) => wanted = next,
             Err(refused) => return print_refused(out, refused),
         }
     }
     print_end(out, run)
+}
+
+// One reply, taken by a step whose record is lent.
+fn take_reply(
+    list: &[u8],
+    run: &mut Record,
+    incoming: &mut [u8],
+    outgoing: &[u8],
+    reply: &[u8],
+) -> Result<Option<Operation>, Refused>
+    ensures leaves { Leaves (step_of list.now (state_of run.old incoming.old outgoing.now) reply.now)
+        result run.new incoming.new outgoing.now }
+{
+    step::step_in_place(list, run, incoming, outgoing, reply)
 }
 
 fn print_refused(out: &mut impl Write, refused: Refused) -> io::Result<()> {

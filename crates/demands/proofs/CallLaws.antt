@@ -6,11 +6,13 @@ use mathlib.Core.List.{List}
 use native.Mathlib.Numerals.{add-one}
 use native.Mathlib.Omega.{arith}
 use borrow.Author.Tests.{eq-eqb, ne_eqb}
+use lib.Dec.{eqb}
 use lib.ListN.{set, get_or}
 use Rattle.std.specs.Prelude.{Some, None}
 use Rattle.base.specs.Bytes.{byte_at}
+use Rattle.base.proofs.Tests.{on}
 use Rattle.demands.specs.declared.Demand.{Demand}
-use Rattle.demands.specs.Demands.{demand_of, first_in, waiting_number, with_first, with_waiting, with_mark, is_queue, cell_of, demand_at, with_demand, is_crate, added_to, leaving, add_of, taken_from, take_of}
+use Rattle.demands.specs.Demands.{demand_of, first_in, waiting_number, with_first, with_waiting, with_mark, is_queue, cell_of, demand_at, with_demand, is_crate, added_to, answer_in, leaving, add_of, taken_from, take_of}
 use Rattle.demands.proofs.LayoutLaws.{Limits}
 
 -- One demand -------------------------------------------------------------------------------------------------------------
@@ -44,3 +46,7 @@ module _ (q : List ℕ) where
   pub take_left : is_queue q ≡ true → take_of q ≡ taken_from q
   unfolding take_of
   take_left t = rw t
+
+-- what taking leaves is answered as it is
+pub taken_answer : (q : List ℕ) → answer_in (taken_from q).queue ≡ (taken_from q).queued
+taken_answer q = on (eqb (waiting_number q) 0) (λ t. rw t) (λ t. rw t)

@@ -6,7 +6,7 @@ pub mod row;
 
 ghost use Rattle.std.specs.Prelude.{◌≡◌};
 ghost use Rattle.demands.specs.Demands.{add_of, row_of, take_of, clear_of};
-ghost use Rattle.demands.specs.model.Answers.{answer_of, taken_answer_of, next_of};
+ghost use Rattle.demands.specs.Answers.{answer_of, taken_answer_of, next_of};
 
 use base::{Fault, Refused};
 use queue::{Queue, is_queue};

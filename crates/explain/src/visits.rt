@@ -101,7 +101,7 @@ fn is_of_longwords(instruction: Instruction) -> bool {
     match instruction {
         Instruction::Camac(command) => command.wide,
         Instruction::Literal(_) => true,
-        _ => false,
+        Instruction::Jump(_) | Instruction::Halt => false,
     }
 }
 

@@ -5,8 +5,8 @@ ghost use Rattle.walk.specs.Admission.{admit_of, numbers_of};
 ghost use Rattle.host.specs.Numbers.{run_numbers, start_by_numbers, step_by_numbers, steps_by_numbers};
 
 use crate::numbers::{
-    admission_numbers, call_numbers, numbers_after, record_numbers, record_of, run_numbers,
-    steps_numbers,
+    admission_numbers, call_numbers, first_record, numbers_after, record_numbers, record_of,
+    run_numbers, steps_numbers,
 };
 
 #[unsafe(no_mangle)]
@@ -50,7 +50,7 @@ pub extern "C" fn camlist_start_v2(
     ensures outgoing { outgoing.now ≡ (start_by_numbers list.now incoming.old outgoing.now).outgoing }
 {
     let outcome = step::start(list, incoming, outgoing);
-    *record = record_numbers(outcome.map_or(reply::zero_record(true), |y| y.run));
+    *record = record_numbers(first_record(outcome));
     *answer = call_numbers(outcome);
 }
 

@@ -1,10 +1,9 @@
 // Answers and records as rows of numbers.
 ghost use Rattle.std.specs.Prelude.{◌≡◌, ◌≤◌, ◌∷◌, ◌-◌, replicate};
 ghost use Rattle.base.specs.Refusals.{refusal_of, number_of};
-ghost use Rattle.calls.specs.Calls.{record_numbers, operation_or_none, taken_in, ran_run, wanted_in, steps_taken, steps_wanted};
-ghost use Rattle.walk.specs.model.Sums.{admitted_by};
-ghost use Rattle.walk.specs.Admission.{numbers_of};
-ghost use Rattle.demands.specs.model.Answers.{answer_of, taken_answer_of, next_of};
+ghost use Rattle.calls.specs.Calls.{record_numbers, refused_record, operation_or_none, run_in, taken_in, ran_run, wanted_in, steps_taken, steps_wanted};
+ghost use Rattle.walk.specs.Admission.{admitted_by, numbers_of};
+ghost use Rattle.demands.specs.Answers.{answer_of, taken_answer_of, next_of};
 ghost use Rattle.host.specs.Numbers.{refusal_numbers, queued_numbers, next_numbers, taken_numbers, ran_numbers, wanted_numbers, call_numbers, steps_numbers, is_narrow};
 ghost use Rattle.host.specs.model.Given.{record_or, numbers_by};
 
@@ -90,6 +89,13 @@ pub fn record_numbers(run: Record) -> [u64; 13]
         run.note.offset as u64,
         run.note.size as u64,
     ]
+}
+
+// The record that a start gives; refused, one marked ended, all else zero.
+pub fn first_record(outcome: Result<Yield, Refused>) -> Record
+    ensures { result ≡ run_in refused_record outcome }
+{
+    outcome.map_or(reply::zero_record(true), |y| y.run)
 }
 
 // Number, place, the replies taken, and the record; of a refused run the zero record marked ended.

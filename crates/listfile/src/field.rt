@@ -32,7 +32,9 @@ impl From<u8> for Tag {
 
     ghost from_gives = { ReadsTag };
 
-    fn from(byte: u8) -> Tag {
+    fn from(byte: u8) -> Tag
+        ensures { ReadsTag byte result }
+    {
         match byte {
             0x10 => Tag::CamacTag,
             0x20 => Tag::JumpTag,
@@ -133,7 +135,7 @@ fn body_at(list: &[u8], at: usize) -> Result<Instruction, Fault>
         Tag::LiteralTag if len == 4 => Ok(Instruction::Literal(base::long_at(list, at + 3))),
         Tag::HaltTag if len == 0 => Ok(Instruction::Halt),
         Tag::UnknownTag => Err(Fault::UnknownTag),
-        _ => Err(Fault::WrongLength),
+        Tag::CamacTag | Tag::JumpTag | Tag::LiteralTag | Tag::HaltTag => Err(Fault::WrongLength),
     }
 }
 

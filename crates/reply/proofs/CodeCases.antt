@@ -1,4 +1,4 @@
--- The causes stand from the greatest code on, so that the first that holds is the code of an answer; every cause has a code from 1 on.
+-- The causes stand from the greatest code on, so that the first that holds is the code of an answer; every cause has a code from 1 to 13.
 -- A scan that leaves has no smaller cause beside it but a damaged command, so that without one 9 as the greatest code is the only cause.
 use denote.Enum.Bare.{sameb}
 use Prim.Native.Nat.{ℕ, ◌≤◌, ◌<◌, max}
@@ -64,6 +64,16 @@ greatest_first (c ∷ cs) h = go c.holds (greatest_first cs h.1)
         let small : max c.number (greatest (all_that_hold cs)) ≤ c.number = max-le (omega arith) (greatest_below c.number cs h.0) in
         omega (arith, le-max_left c.number (greatest (all_that_hold cs)))
     go false e = e
+
+code_small : (limit : ℕ) (c : Command) (r : Record) (reply : Reply) → code_of limit c r reply ≤ 13
+unfolding code_of causes_of cause_checks
+code_small limit c r NoSync = omega arith
+code_small limit c r NotRecognised = omega arith
+code_small limit c r Timeout = omega arith
+code_small limit c r (Answered a) = greatest_below 13 (cause_checks limit (qmode_of c.transfer) (is_block c.transfer) c.ad r a) (omega arith)
+
+pub code_below : (limit : ℕ) (c : Command) (r : Record) (reply : Reply) (x : ℕ) → x ≡ code_of limit c r reply → x ≤ 13
+code_below limit c r reply x e = omega (arith, code_small limit c r reply)
 
 -- The row of causes ------------------------------------------------------------------------------------------------------
 

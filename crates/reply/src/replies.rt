@@ -34,14 +34,18 @@ fn answer_in(bytes: &[u8; 8]) -> Answer
     }
 }
 
-// Whether eight bytes are a reply.
+// Whether eight bytes are a reply. An answer leaves early: all tests in one expression take 9 instructions more a reply.
 fn is_formed(bytes: &[u8; 8]) -> bool
     ensures { result ≡ is_formed bytes.now }
 {
     let [kind, flags, second, third, low, middle, high, last] = *bytes;
-    let is_bare = (flags == 0) & (low == 0) & (middle == 0) & (high == 0);
-    let has_zeros = (second == 0) & (third == 0) & (last == 0);
-    (flags < 64) & has_zeros & ((kind == 0) | is_bare) & (kind <= 3)
+    if (second == 0) & (third == 0) & (last == 0) {
+        if kind == 0 {
+            return flags < 64;
+        }
+        return (kind <= 3) & (flags == 0) & (low == 0) & (middle == 0) & (high == 0);
+    }
+    false
 }
 
 // The reply that formed bytes are: the kind, the flags and the data are all that is read.

@@ -19,12 +19,12 @@ const TOPS: [u32; 64] = [
 #[derive(Clone, Copy)]
 pub struct TopBits {
     pub tops: [u32; 64],
-    ghost right: { Tops tops },
+    pub ghost right: { Tops tops },
 }
 
 impl TopBits {
     // By the flags of an answer.
-    pub(crate) fn of(&self, flags: u8) -> u32
+    pub fn of(&self, flags: u8) -> u32
         requires { flags < 64 }
         ensures { result ≡ (if eqb (flags / 2 % 2) 1 then 2 ^ 30 else 0) + (if eqb (flags % 2) 1 then 2 ^ 31 else 0) }
     {
@@ -32,6 +32,8 @@ impl TopBits {
     }
 }
 
-pub fn top_bits() -> TopBits {
+pub fn top_bits() -> TopBits
+    ensures { Tops result.tops }
+{
     TopBits { tops: TOPS }
 }

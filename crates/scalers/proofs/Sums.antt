@@ -1,6 +1,6 @@
 -- The sums by which code converts a longword. To binary: the digits in pairs, each pair less six times its higher digit. To decimal: a digit is a
 -- quotient less ten times the next one, so that the packed digits are the value and six times the sum of its quotients, each at its place.
-use Prim.Native.Nat.{ℕ, ◌+◌, ◌-◌, ◌*◌, ◌/◌, ◌%◌, ◌^◌, ◌<◌}
+use Prim.Native.Nat.{ℕ, ◌+◌, ◌-◌, ◌*◌, ◌/◌, ◌%◌, ◌^◌, ◌≤◌, ◌<◌}
 use mathlib.Core.Path.{◌≡◌, sym, ap, ap₂, ◌∙◌}
 use mathlib.Core.List.{List, [], ◌∷◌}
 use native.Mathlib.Omega.{arith}
@@ -28,6 +28,9 @@ binary_sum w = w / 1073741824 * 1073741824 + pairs_in w % 256 + pairs_in w / 256
 
 -- a longword of six digits and what lies above them
 module _ (w a b c d e f h : ℕ) (parts : w ≡ number 16 (a ∷ b ∷ c ∷ d ∷ e ∷ f ∷ []) + h * 2 ^ 24) where
+  tens_within : (b + d * 256 + f * 65536) * 6 ≤ w
+  tens_within = omega arith
+
   three_pairs : w - (b + d * 256 + f * 65536) * 6 ≡ number 256 ((a + 10 * b) ∷ (c + 10 * d) ∷ (e + 10 * f) ∷ []) + h * 256 ^ 3
   three_pairs = omega arith
 
@@ -37,6 +40,9 @@ parts w =
     let value = ap (number 16) (sym (packed_digits w)) ∙ packed_number w in
     let split : w ≡ bits 23 0 w + w / 2 ^ 24 * 2 ^ 24 = omega arith in
     split ∙ ap (λ (v : ℕ). v + w / 2 ^ 24 * 2 ^ 24) (sym value)
+
+pub tens_fit : (w : ℕ) → tens_in w * 6 ≤ w
+tens_fit w = tens_within w (w % 16) (w / 16 % 16) (w / 256 % 16) (w / 4096 % 16) (w / 65536 % 16) (w / 1048576 % 16) (w / 2 ^ 24) (parts w)
 
 pair_digits : (w : ℕ) → digits 256 3 (pairs_in w)
     ≡ (w % 16 + 10 * (w / 16 % 16)) ∷ (w / 256 % 16 + 10 * (w / 4096 % 16)) ∷ (w / 65536 % 16 + 10 * (w / 1048576 % 16)) ∷ []

@@ -29,7 +29,7 @@ use Rattle.take.specs.declared.Taken.{Taken}
 use Rattle.take.specs.declared.Taken.TheVariants.{Same, Through, Ended}
 use Rattle.take.specs.declared.Advance.TheVariants.{On, At}
 use Rattle.take.proofs.Onward.{went, stays, advance_length}
-use Rattle.step.specs.model.Onward.{Going, record_in, GoingBy, wanted_by}
+use Rattle.step.specs.model.Onward.{Going, record_in, GoingBy, operation_at, wanted_by}
 use Rattle.walk.specs.declared.visits.Spot.{Spot}
 
 pub within : (list : List ℕ) (n : ℕ) (k : Spot) → OnWalk list n k → k.instruction < n
@@ -122,3 +122,18 @@ module _ (list table : List ℕ) (r : Record) (out : List ℕ) where
       → operation_of c r out ≡ wanted_by list table r out
   unfolding wanted_by
   wanted_camac waits c e = rw (e, waits)
+
+  -- where no CAMAC instruction stands
+  module _ (waits : r.ended ≡ false) (i : Instruction) (ei : i ≡ instruction_at list (get_or table r.spot.instruction 0)) where
+    wanted_at_lem : operation_at i r out ≡ wanted_by list table r out
+    unfolding wanted_by
+    wanted_at_lem = rw (← ei, waits)
+
+    pub wanted_none : ((c : Command) → i ≡ Camac c → ⊥) → no_operation ≡ wanted_by list table r out
+    wanted_none k = by i k ∙ wanted_at_lem
+      where
+        by : (i : Instruction) → ((c : Command) → i ≡ Camac c → ⊥) → no_operation ≡ operation_at i r out
+        by (Camac c) k = absurd (k c refl)
+        by (Jump target) k = refl
+        by (Literal v) k = refl
+        by Halt k = refl

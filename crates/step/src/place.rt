@@ -24,14 +24,14 @@ pub struct Met {
 fn found_at(i: Instruction, before: Counts, after: u64) -> Option<Met>
     ensures { result ≡ found_at i before after }
 {
-    let Instruction::Camac(command) = i else {
-        return None;
-    };
-    Some(Met {
-        command,
-        before,
-        after,
-    })
+    match i {
+        Instruction::Camac(command) => Some(Met {
+            command,
+            before,
+            after,
+        }),
+        Instruction::Jump(_) | Instruction::Literal(_) | Instruction::Halt => None,
+    }
 }
 
 // The visit of a spot on an admitted list's walk; none where no CAMAC instruction of the walk is there.

@@ -141,3 +141,8 @@ module _ (list table : List ℕ) (s : Sizes) (room : ℕ) (g : Grounds list tabl
       let same : Camac d.0 ≡ Camac c = sym d.1.0 ∙ q in
       let command : d.0 ≡ c = cc in
       subst (λ (x : Command). Alive (plan_by list s) x r) command d.1.1
+
+  -- nothing else stands there
+  pub no_other : {A : Type 0} (i : Instruction) → i ≡ instruction_at list (get_or table r.spot.instruction 0)
+      → ((x : Command) → i ≡ Camac x → ⊥) → A
+  no_other i e k = let d = decoded i e in absurd (k d.0 d.1.0)

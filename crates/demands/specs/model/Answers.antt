@@ -1,29 +1,8 @@
--- What code answers, as the answers of the calls. Nothing here is a rule of document 02.
-use Rattle.std.specs.Prelude.{ℕ, false, not, Option, None, Result, Ok, Err, List, eqb}
-use Rattle.base.specs.Refusals.{not_refused, told}
-use Rattle.base.specs.declared.refusals.Refused.{Refused}
-use Rattle.demands.specs.declared.Demand.{Demand}
+-- What code reads of a queue. Nothing here is a rule of document 02.
+use Rattle.std.specs.Prelude.{ℕ, not, List, eqb}
 use Rattle.demands.specs.declared.Queued as code
-use Rattle.demands.specs.declared.Taken.{Taken}
-use Rattle.demands.specs.Demands.{Queued, waiting_number, mark_in}
+use Rattle.demands.specs.Demands.{waiting_number, mark_in}
 
 -- how many wait, and the mark
 abbrev pub queued_in : List ℕ → code.Queued
 queued_in q = record { waiting = waiting_number q; overflow = not (eqb (mark_in q) 0) }
-
--- with the refusal, or that there is none
-abbrev pub accepted : code.Queued → Queued
-accepted r = record { refusal = not_refused; waiting = r.waiting; overflow = r.overflow }
-
--- refused, zeros
-abbrev pub answer_of : Result code.Queued Refused → Queued
-answer_of (Ok r) = accepted r
-answer_of (Err r) = record { refusal = told r; waiting = 0; overflow = false }
-
-abbrev pub taken_answer_of : Result Taken Refused → Queued
-taken_answer_of (Ok t) = accepted t.queued
-taken_answer_of (Err r) = record { refusal = told r; waiting = 0; overflow = false }
-
-abbrev pub next_of : Result Taken Refused → Option Demand
-next_of (Ok t) = t.next
-next_of (Err r) = None
