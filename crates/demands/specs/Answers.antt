@@ -1,4 +1,4 @@
--- What code answers, as the answers of the calls: refused, number, place and zeros.
+-- What code answers, as the answers of the calls (document 01, "The calls").
 use Rattle.std.specs.Prelude.{false, Option, None, Result, Ok, Err}
 use Rattle.base.specs.Refusals.{not_refused, told}
 use Rattle.base.specs.declared.refusals.Refused.{Refused}
@@ -7,11 +7,11 @@ use Rattle.demands.specs.declared.Queued as code
 use Rattle.demands.specs.declared.Taken.{Taken}
 use Rattle.demands.specs.Demands.{Queued}
 
--- with the refusal, or that there is none
+-- not refused
 abbrev pub accepted : code.Queued → Queued
 accepted r = record { refusal = not_refused; waiting = r.waiting; overflow = r.overflow }
 
--- refused, zeros
+-- "A refusal yields number, place and zeros"
 abbrev pub answer_of : Result code.Queued Refused → Queued
 answer_of (Ok r) = accepted r
 answer_of (Err r) = record { refusal = told r; waiting = 0; overflow = false }

@@ -128,7 +128,7 @@ fn body_at(list: &[u8], at: usize) -> Result<Instruction, Fault>
     requires { next_field list.now at ≤ length list.now }
     ensures { numbered result ≡ read_by (tag_at list.now at) list.now at }
 {
-    let len = base::short_at(list, at + 1);
+    let len = base::pair_at(list, at + 1);
     match tag_at(list, at) {
         Tag::CamacTag if len == 4 || len == 8 => camac_at(list, at),
         Tag::JumpTag if len == 2 => Ok(Instruction::Jump(base::short_at(list, at + 3) as u16)),
@@ -149,7 +149,8 @@ pub fn field_at(list: &[u8], at: usize, count: usize) -> Result<Instruction, Fau
     if list.len() < at + 3 {
         return Err(Fault::PastEnd);
     }
-    if list.len() < next_place(list, at) {
+    let next = at + 3 + base::pair_at(list, at + 1);
+    if list.len() < next {
         return Err(Fault::PastEnd);
     }
     if MOST_INSTRUCTIONS <= count {

@@ -34,7 +34,7 @@ fn answer_in(bytes: &[u8; 8]) -> Answer
     }
 }
 
-// Whether eight bytes are a reply. An answer leaves early: all tests in one expression take 9 instructions more a reply.
+// Whether eight bytes are a reply. An answer leaves early: all tests in one expression take 9 instructions more an answer.
 fn is_formed(bytes: &[u8; 8]) -> bool
     ensures { result ≡ is_formed bytes.now }
 {

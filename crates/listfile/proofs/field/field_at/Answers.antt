@@ -16,8 +16,8 @@ returns-then-list-at c =
 pub returns-then-list-at-2 : goal.returns-then-list-at-2
 returns-then-list-at-2 c = field_refused _ _ _ 0 (lt-ltb _ _ c.if-list-at-2.true) (λ e. omega arith)
 
-pub returns-then-list-next_place : goal.returns-then-list-next_place
-returns-then-list-next_place c =
+pub returns-then-list-next : goal.returns-then-list-next
+returns-then-list-next c =
     let a = c.args in
     field_refused a.list.now a.at a.count 1
     (le-ltb (length a.list.now) (a.at + 3) (omega arith), lt-ltb (length a.list.now) (next_field a.list.now a.at) (omega arith))
