@@ -1,4 +1,4 @@
--- What code answers, as the answers of the calls (document 01, "The calls").
+-- What code answers, as the answers of the calls (document 01, "Who can cause which refusal").
 use Rattle.std.specs.Prelude.{false, Option, None, Result, Ok, Err}
 use Rattle.base.specs.Refusals.{not_refused, told}
 use Rattle.base.specs.declared.refusals.Refused.{Refused}

@@ -139,7 +139,8 @@ fn body_at(list: &[u8], at: usize) -> Result<Instruction, Fault>
     }
 }
 
-// The field at an offset, with `count` instructions before it: its instruction, or refusal 1 or 3 to 9.
+// The field at an offset, with `count` instructions before it: its instruction, or refusal 1 or 3 to 9. Both bytes of the length are there, here and
+// in body_at: to ask for each, as `short_at` does, takes 25 instructions more a field.
 pub fn field_at(list: &[u8], at: usize, count: usize) -> Result<Instruction, Fault>
     ensures { numbered result ≡ field_of list.now at count }
 {
